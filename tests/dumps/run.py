@@ -6,8 +6,10 @@ import os
 import pathlib
 import select
 import shutil
+import socket
 import struct
 import subprocess
+import time
 
 from driver.suite import Count
 from driver.workspace import TOP
@@ -88,6 +90,18 @@ class Dumps:
             words.append(name)
         done = subprocess.run(words, cwd=self.folder, capture_output=True, input=given, timeout=120)
         return done.returncode, done.stdout.decode(), done.stderr.decode()
+
+    def most_memory(self, name, octets):
+        """How many KiB a run on such a file takes at most; none where `time` isn't there to tell."""
+        (self.folder / name).write_bytes(octets)
+        words = [str(PROGRAM), "dump", "shop.idl", name]
+        timed = shutil.which("time")
+        if timed:
+            words = [timed, "-f", "%M", *words]
+        done = subprocess.run(words, cwd=self.folder, stdout=subprocess.DEVNULL, stderr=subprocess.PIPE, text=True, timeout=280)
+        told = done.stderr.split()
+        self.count.add(done.returncode == 0, f"{name}: {done.returncode}, {told}")
+        return int(told[-1]) if timed and told and told[-1].isdigit() else None
 
     def check(self, what, wanted, *files, status=0, told="", given=None):
         got = self.run(*files, given=given)
@@ -197,6 +211,9 @@ def both(dumps):
     dumps.check("a line that is none", out[0] + out[1] + home[0] + home[1], broken, status=3, told=told)
     cut = given[:-69]
     dumps.check("a text that is cut", wanted, cut, status=3, told="idlc: 142 BadCapture line 15\n")
+    dumps.check("ends of lines of two octets", wanted, given.replace(b"\n", b"\r\n"))
+    bad = given.replace(there[0].hex().encode(), b"47x0")
+    dumps.check("a first line of octets that is none", [], bad, status=1, told="idlc: 142 BadCapture line 7\n")
 
 
 def fragments(dumps):
@@ -213,6 +230,46 @@ def fragments(dumps):
     wanted = lines(">", *zip(pieces, words))
     dumps.check("requests in fragments", wanted, b"".join(pieces))
     dumps.check("both", wanted + lines("<", *zip(back, answers)), b"".join(pieces), b"".join(back))
+
+
+def cancelled(dumps):
+    """A cancel request ends the run with its number: what has the number later is another request, to a server too."""
+    begun, whole = request_body(1, "ping")[:12], request_body(1, "_get_label")
+    pieces = [message(0, begun, flags=2), message(2, whole[:4]), message(0, whole[:28], flags=2), message(7, whole[:4] + whole[28:])]
+    asked = 'Request id 1 key "K" operation "_get_label" flags 3 order big\n  []'
+    words = ["first piece of type 0 id 1", "CancelRequest id 1", "first piece of type 0 id 1", f"last piece id 1: {asked}"]
+    dumps.check("a number that is used again", lines(">", *zip(pieces, words)), b"".join(pieces))
+    # the broker calls the operation that is told: its reply has an empty label
+    with socket.create_server(("127.0.0.1", 0)) as free:
+        port = free.getsockname()[1]
+    served = [str(PROGRAM), "serve", "shop.idl", "--port", str(port), "--object", "K=Shop::Store", "--connections", "1"]
+    with subprocess.Popen(served, cwd=dumps.folder, stdout=subprocess.PIPE) as server:
+        server.stdout.readline()
+        with socket.create_connection(("127.0.0.1", port), timeout=20) as client:
+            client.sendall(b"".join(pieces))
+            client.shutdown(socket.SHUT_WR)
+            answer = b""
+            while more := client.recv(65536):
+                answer += more
+        said = reply(1, text(""))
+        dumps.count.add((answer, server.wait(timeout=20)) == (said, 0), f"the same, served: {answer.hex()}, wanted {said.hex()}")
+
+
+def many_pieces(dumps):
+    """What is open of a direction is found by its number, and doesn't grow without a limit."""
+    octets = b"".join(message(0, struct.pack(">I", number), flags=2) for number in range(100_000))
+    octets += message(7, struct.pack(">I", 100_000), flags=2) * 100_000
+    began = time.monotonic()
+    status, told, _ = dumps.run(octets)
+    took = time.monotonic() - began
+    rows = told.splitlines()
+    counts = (status, len(rows), rows.count("  97 BadFragment"), sum(row.startswith("  unfinished id ") for row in rows))
+    wanted = (0, 100_000 + 99_936 + 300_000, 100_000, 99_936)
+    dumps.count.add(counts == wanted, f"100,000 first pieces and as many of another number: {counts}, wanted {wanted}")
+    dumps.count.add(took < 2, f"100,000 first pieces and as many of another number took {took:.1f} s")
+    octets = b"".join(message(0, struct.pack(">I", number) + bytes(65_532), flags=2) for number in range(1000))
+    most = dumps.most_memory("pieces", octets)
+    dumps.count.add(most is None or most <= 24 * 1024, f"1,000 pieces of 64 KiB: {most} KiB")
 
 
 def said_by(program, count):
@@ -254,6 +311,11 @@ def going_on(dumps):
 
 def refused(dumps):
     dumps.check("no capture", [], b"hello", status=1, told="idlc: 142 BadCapture capture0\n")
+    packets = struct.pack("<IIIHHQI", 0x0A0D0D0A, 28, 0x1A2B3C4D, 1, 0, 2**64 - 1, 28)
+    dumps.check("a file of packets", [], packets, status=1, told="idlc: 142 BadCapture capture0\n")
+    dumps.check("a file of packets, of old", [], bytes.fromhex("d4c3b2a1") + bytes(20), status=1, told="idlc: 142 BadCapture capture0\n")
+    dumps.check("a bad first line", [], b"\nhello\n", status=1, told="idlc: 142 BadCapture line 2\n")
+    dumps.check("a rule alone", [], b"=====\n", status=1, told="idlc: 142 BadCapture line 1\n")
     dumps.check("text for the way back", [], b"", b"\n====\n", status=1, told="idlc: 142 BadCapture capture1\n")
     dumps.check("no file", [], "none", status=3, told="idlc: cannot read none\n")
 
@@ -261,17 +323,8 @@ def refused(dumps):
 def large(dumps):
     """A capture of 64 MiB takes as little memory as a small one, where `time` is there to tell."""
     octets = b"".join(request(number, "tell", text("x" * 1000), wanted=0) for number in range(1000))
-    with open(dumps.folder / "large", "wb") as file:
-        for _ in range(62):
-            file.write(octets)
-    words = [str(PROGRAM), "dump", "shop.idl", "large"]
-    timed = shutil.which("time")
-    if timed:
-        words = [timed, "-f", "%M", *words]
-    done = subprocess.run(words, cwd=dumps.folder, stdout=subprocess.DEVNULL, stderr=subprocess.PIPE, text=True, timeout=280)
-    told = done.stderr.split()
-    is_small = not timed or bool(told) and told[-1].isdigit() and int(told[-1]) <= 16 * 1024
-    dumps.count.add(done.returncode == 0 and is_small, f"64 MiB: {done.returncode}, {told} KiB")
+    most = dumps.most_memory("large", octets * 62)
+    dumps.count.add(most is None or most <= 16 * 1024, f"64 MiB: {most} KiB")
 
 
 def run(test):
@@ -281,6 +334,8 @@ def run(test):
     long_messages(dumps)
     both(dumps)
     fragments(dumps)
+    cancelled(dumps)
+    many_pieces(dumps)
     going_on(dumps)
     refused(dumps)
     large(dumps)

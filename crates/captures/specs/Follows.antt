@@ -1,6 +1,6 @@
 -- The text that `tshark -q -z follow,tcp,raw,N` prints of a connection: a rule, lines about it of which the last is
 -- that of its second node, the octets that went in digits, those of the second node behind a tab, and a rule.
-use Rattle.std.specs.Prelude.{ℕ, Bool, List, codes, drop, length, nat_eq, if◌then◌else◌}
+use Rattle.std.specs.Prelude.{ℕ, ◌-◌, Bool, List, codes, drop, take, length, nat_eq, slice_index, if◌then◌else◌}
 use Rattle.std.specs.Prelude.{Option, Some, None, option_map, Result, Ok, Err}
 use Rattle.std.specs.List.{starts_with}
 use Rattle.hex.specs.Hex.{decode_of}
@@ -47,6 +47,10 @@ with_piece (Some piece) = Some (Body, Some piece)
 
 abbrev pub in_body : List ℕ → Option Said
 in_body line = if is_rule line then Some (Behind, None) else with_piece (piece_in line)
+
+-- a line without its end, a line feed with or without a carriage return before it; the line feed isn't there any more
+abbrev pub bare : List ℕ → List ℕ
+bare line = if nat_eq (slice_index line (length line - 1)) 13 then take (length line - 1) line else line
 
 -- What a line says that stands in a stage of the text; none where it is no line of that stage. Blank lines may stand
 -- before and behind the rules.

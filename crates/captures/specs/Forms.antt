@@ -9,10 +9,18 @@ abbrev pub is_front_of_giop : List ℕ → Bool
 is_front_of_giop front =
     if nat_lt (length front) 4 then starts_with nat_eq (codes "GIOP") front else starts_with nat_eq front (codes "GIOP")
 
+-- a file of packets begins so, as pcapng has it (Section Header Block)
+abbrev pub is_pcapng : List ℕ → Bool
+is_pcapng front = starts_with nat_eq front (codes "\n\r\r\n")
+
 -- a text begins with a blank line, or with a rule
 abbrev pub begins_text : List ℕ → Bool
 begins_text [] = nat_eq 0 1
-begins_text (first ∷ rest) = nat_eq first 10 || nat_eq first 61
+begins_text (first ∷ rest) = nat_eq first 10 || nat_eq first 13 || nat_eq first 61
 
 abbrev pub form_in : List ℕ → Option CaptureForm
-form_in front = if is_front_of_giop front then Some Octets else if begins_text front then Some Text else None
+form_in front =
+    if is_front_of_giop front then Some Octets
+    else if is_pcapng front then None
+    else if begins_text front then Some Text
+    else None

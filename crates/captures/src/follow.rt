@@ -3,7 +3,7 @@
 ghost use Rattle.std.specs.Prelude.{◌≡◌, codes, nat_eq, IfOk, IfErr, None};
 ghost use Rattle.std.specs.Bool.{OnFalse};
 ghost use Rattle.std.specs.List.{starts_with};
-ghost use Rattle.captures.specs.Follows.{followed_of, follows, in_body as body_of, is_rule as is_rule_in, is_second as is_second_in, names_second as names_second_in, piece_of};
+ghost use Rattle.captures.specs.Follows.{bare as bare_of, followed_of, follows, in_body as body_of, is_rule as is_rule_in, is_second as is_second_in, names_second as names_second_in, piece_of};
 ghost use Rattle.captures.specs.Refusal.{wants_memory};
 
 use crate::fault::CaptureFault;
@@ -106,28 +106,41 @@ fn in_body(alloc: Global, line: &[u8]) -> Result<Followed, CaptureFault>
 }
 
 /// A line without octets, behind which this stage begins.
-fn bare(stage: Stage) -> Followed
+fn silent(stage: Stage) -> Followed
     ensures stage { result.stage ≡ stage }
     ensures piece { result.piece ≡ None }
 {
     Followed { stage, piece: None }
 }
 
-/// What a line of the text says, without its end, which stands in this stage of the text.
+/// The line without a carriage return at its end.
+fn bare_line(line: &[u8]) -> &[u8]
+    ensures { result.now ≡ bare_of line.now }
+{
+    let len = line.len();
+    if len > 0 && line[len - 1] == b'\r' {
+        line.split_at(len - 1).0
+    } else {
+        line
+    }
+}
+
+/// What a line of the text says, without its line feed, which stands in this stage of the text.
 ///
 /// # Errors
 /// `BadCapture` where it is no line of that stage. Want of memory.
 pub fn follow_line(alloc: Global, stage: Stage, line: &[u8]) -> Result<Followed, CaptureFault>
-    ensures found { IfOk result (λ said. follows stage line.now ≡ Some (followed_of said)) }
-    ensures refused { IfErr result (λ fault. OnFalse (wants_memory fault) (follows stage line.now ≡ None)) }
+    ensures found { IfOk result (λ said. follows stage (bare_of line.now) ≡ Some (followed_of said)) }
+    ensures refused { IfErr result (λ fault. OnFalse (wants_memory fault) (follows stage (bare_of line.now) ≡ None)) }
 {
+    let line = bare_line(line);
     match stage {
-        Stage::Before if line.is_empty() => Ok(bare(Stage::Before)),
-        Stage::Before if is_rule(line) => Ok(bare(Stage::Head)),
-        Stage::Head if names_second(line) => Ok(bare(Stage::Body)),
-        Stage::Head => Ok(bare(Stage::Head)),
+        Stage::Before if line.is_empty() => Ok(silent(Stage::Before)),
+        Stage::Before if is_rule(line) => Ok(silent(Stage::Head)),
+        Stage::Head if names_second(line) => Ok(silent(Stage::Body)),
+        Stage::Head => Ok(silent(Stage::Head)),
         Stage::Body => in_body(alloc, line),
-        Stage::Behind if line.is_empty() => Ok(bare(Stage::Behind)),
+        Stage::Behind if line.is_empty() => Ok(silent(Stage::Behind)),
         _ => Err(CaptureFault::BadCapture),
     }
 }

@@ -1,7 +1,7 @@
 //! The form of a capture.
 
 ghost use Rattle.std.specs.Prelude.{◌≡◌};
-ghost use Rattle.captures.specs.Forms.{form_in, is_front_of_giop as is_front_of_giop_in};
+ghost use Rattle.captures.specs.Forms.{form_in, is_front_of_giop as is_front_of_giop_in, is_pcapng as is_pcapng_in};
 
 /// The form of a capture.
 #[derive(Clone, Copy, Debug, PartialEq, Eq)]
@@ -24,6 +24,13 @@ fn is_front_of_giop(front: &[u8]) -> bool
     }
 }
 
+/// Whether octets begin a file of packets, which is no capture of a connection.
+fn is_pcapng(front: &[u8]) -> bool
+    ensures { result ≡ is_pcapng_in front.now }
+{
+    front.starts_with(b"\n\r\r\n".as_slice())
+}
+
 /// The form of a capture that begins with these octets; none where it has neither.
 pub fn form_of(front: &[u8]) -> Option<CaptureForm>
     ensures { result ≡ form_in front.now }
@@ -31,8 +38,11 @@ pub fn form_of(front: &[u8]) -> Option<CaptureForm>
     if is_front_of_giop(front) {
         return Some(CaptureForm::Octets);
     }
+    if is_pcapng(front) {
+        return None;
+    }
     match front.first() {
-        Some(b'\n') | Some(b'=') => Some(CaptureForm::Text),
+        Some(b'\n') | Some(b'\r') | Some(b'=') => Some(CaptureForm::Text),
         _ => None,
     }
 }

@@ -19,7 +19,7 @@ sized octets size =
 -- as many octets are there as are told of
 abbrev pub IsWithin : List ℕ → Front → Type 0
 IsWithin octets More = Unit {0}
-IsWithin octets (Message count) = (12 ≤ count) × (count ≤ length octets)
+IsWithin octets (Message count) = (12 ≤ count) × (count ≤ length octets) × (count ≤ 12 + max_size)
 IsWithin octets (Older count) = (12 ≤ count) × (count ≤ length octets)
 IsWithin octets (Long count) = (12 ≤ length octets) × (12 ≤ count)
 IsWithin octets (Lost fault) = 12 ≤ length octets

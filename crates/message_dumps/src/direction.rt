@@ -1,8 +1,9 @@
 //! A direction of a connection: what has come of it and isn't told.
 
-ghost use Rattle.std.specs.Prelude.{◌≡◌, []};
+ghost use Rattle.std.specs.Prelude.{◌≡◌};
+ghost use Rattle.message_dumps.specs.Lines.{fresh, waiting_of};
 
-use crate::open::OpenMessage;
+use crate::open_runs::OpenRuns;
 use captures::Backlog;
 use std::alloc::Global;
 
@@ -20,19 +21,18 @@ pub(crate) struct Direction {
     pub(crate) backlog: Backlog,
     pub(crate) raw: Raw,
     /// Messages of which pieces were told.
-    pub(crate) open: Vec<OpenMessage>,
+    pub(crate) open_runs: OpenRuns,
 }
 
 impl Direction {
     /// One of which nothing has come. Takes no memory.
     pub(crate) fn new(alloc: Global) -> Direction
-        ensures place { result.backlog.place ≡ 0 }
-        ensures octets { result.backlog.octets.items ≡ [] }
+        ensures { waiting_of result ≡ fresh }
     {
         Direction {
             backlog: Backlog::new(alloc),
             raw: Raw::No,
-            open: Vec::new(alloc),
+            open_runs: OpenRuns::new(alloc),
         }
     }
 }

@@ -2,7 +2,8 @@
 
 ghost use Rattle.std.specs.Prelude.{◌≡◌, ◌≤◌, ◌<◌, ◌++◌, [], IfOk, MatchOption, OnOk, OnErr, length};
 ghost use Rattle.std.specs.String.{string_bytes};
-ghost use Rattle.message_dumps.specs.Lines.{IsTold, IsToldOf, line_of, of_other, of_side, waiting_of};
+ghost use Rattle.message_dumps.specs.Lines.{IsEndOf, IsPassed, IsStill, IsTold, IsToldEnd, IsToldOf, IsWaiting, fresh, line_of, of_other, of_side, waiting_of, with_octets};
+ghost use Rattle.message_dumps.specs.OpenRuns.{AreWithin};
 
 use crate::direction::{Direction, Raw};
 use crate::front::{Front, front_in};
@@ -25,8 +26,8 @@ impl Model for Dump {
     ghost Value = { Pending };
 
     ghost view = { λ dump. record {
-      first = waiting_of dump.first.backlog;
-      second = waiting_of dump.second.backlog;
+      first = waiting_of dump.first;
+      second = waiting_of dump.second;
     } };
 }
 
@@ -65,8 +66,11 @@ fn line(
 fn pass(alloc: Global, side: Side, own: &mut Direction, told: &Told) -> Result<String, AllocError>
     requires some { 0 < told.now.count }
     requires within { told.now.count ≤ length own.old.backlog.octets.items }
-    ensures { IfOk result (λ text.
-        IsToldOf side (waiting_of own.old.backlog) (waiting_of own.new.backlog) (string_bytes text)) }
+    ensures text { IfOk result (λ text. string_bytes text
+        ≡ line_of side own.old.backlog.place told.now.count (string_bytes told.now.words)) }
+    ensures passed { OnOk result (IsPassed told.now.count (waiting_of own.old) (waiting_of own.new)) }
+    ensures raw { OnOk result (own.new.raw ≡ told.now.raw) }
+    ensures runs { own.new.open_runs ≡ own.old.open_runs }
 {
     let text = line(
         alloc,
@@ -87,11 +91,21 @@ fn tell_front<W: Words>(
     side: Side,
     own: &mut Direction,
 ) -> Result<Option<String>, AllocError>
-    ensures { IfOk result (λ o. MatchOption o (own.new.backlog ≡ own.old.backlog) (λ text.
-        IsToldOf side (waiting_of own.old.backlog) (waiting_of own.new.backlog) (string_bytes text))) }
+    ensures { IfOk result (λ o. MatchOption o
+        (IsWaiting words.old (waiting_of own.old) (waiting_of own.new) words.new)
+        (λ text. IsToldOf W.says side words.old (waiting_of own.old) (waiting_of own.new) (string_bytes text) words.new)) }
 {
     let octets = own.backlog.octets.as_slice();
-    match told_front(words, alloc, side, own.raw, &mut own.open, octets)? {
+    let place = own.backlog.place;
+    match told_front(
+        words,
+        alloc,
+        side,
+        place,
+        own.raw,
+        &mut own.open_runs,
+        octets,
+    )? {
         Some(told) => Ok(Some(pass(alloc, side, own, &told)?)),
         None => Ok(None),
     }
@@ -100,7 +114,7 @@ fn tell_front<W: Words>(
 /// Tells what is left of a direction.
 fn tell_end(alloc: Global, side: Side, own: &mut Direction) -> Result<Option<String>, AllocError>
     ensures { IfOk result (λ o. MatchOption o (own.old.backlog.octets.items ≡ []) (λ text.
-        IsToldOf side (waiting_of own.old.backlog) (waiting_of own.new.backlog) (string_bytes text))) }
+        IsEndOf side (waiting_of own.old) (waiting_of own.new) (string_bytes text))) }
 {
     match told_end(alloc, own.backlog.octets.as_slice())? {
         Some(told) => Ok(Some(pass(alloc, side, own, &told)?)),
@@ -123,8 +137,8 @@ fn is_early<W: Words>(words: &W, side: Side, own: &Direction) -> bool {
 impl Dump {
     /// One of which nothing has come. Takes no memory.
     pub fn new(alloc: Global) -> Dump
-        ensures first { result.first ≡ record { place = 0; octets = [] } }
-        ensures second { result.second ≡ record { place = 0; octets = [] } }
+        ensures first { result.first ≡ fresh }
+        ensures second { result.second ≡ fresh }
     {
         Dump {
             first: Direction::new(alloc),
@@ -137,10 +151,9 @@ impl Dump {
     /// # Errors
     /// Want of memory.
     pub fn add(&mut self, side: Side, octets: &[u8]) -> Result<(), AllocError>
-        ensures octets { OnOk result ((of_side side self.new).octets ≡ (of_side side self.old).octets ++ octets.now) }
-        ensures place { (of_side side self.new).place ≡ (of_side side self.old).place }
+        ensures added { OnOk result (of_side side self.new ≡ with_octets (of_side side self.old) octets.now) }
+        ensures kept { OnErr result (of_side side self.new ≡ of_side side self.old) }
         ensures other { of_other side self.new ≡ of_other side self.old }
-        ensures kept { OnErr result ((of_side side self.new).octets ≡ (of_side side self.old).octets) }
     {
         match side {
             Side::First => self.first.backlog.add(octets),
@@ -148,7 +161,8 @@ impl Dump {
         }
     }
 
-    /// Tells what stands at the front of a direction; none where more octets have to come.
+    /// Tells what stands at the front of a direction; none where more octets have to come, and then nothing
+    /// has changed.
     ///
     /// # Errors
     /// Want of memory. Then it isn't to be used on.
@@ -158,8 +172,8 @@ impl Dump {
         alloc: Global,
         side: Side,
     ) -> Result<Option<String>, AllocError>
-        ensures { IfOk result (λ o. MatchOption o (self.new ≡ self.old) (λ text.
-            IsTold side self.old self.new (string_bytes text))) }
+        ensures { IfOk result (λ o. MatchOption o (IsStill side words.old self.old self.new words.new) (λ text.
+            IsTold W.says side words.old self.old self.new (string_bytes text) words.new)) }
     {
         match side {
             Side::First => tell_front(words, alloc, side, &mut self.first),
@@ -173,11 +187,22 @@ impl Dump {
     /// Want of memory. Then it isn't to be used on.
     pub fn tell_end(&mut self, alloc: Global, side: Side) -> Result<Option<String>, AllocError>
         ensures { IfOk result (λ o. MatchOption o ((of_side side self.old).octets ≡ []) (λ text.
-            IsTold side self.old self.new (string_bytes text))) }
+            IsToldEnd side self.old self.new (string_bytes text))) }
     {
         match side {
             Side::First => tell_end(alloc, side, &mut self.first),
             Side::Second => tell_end(alloc, side, &mut self.second),
+        }
+    }
+
+    /// How many messages of a direction are open: pieces of them were told, and their last ones weren't.
+    pub fn open_count(&self, side: Side) -> usize
+        ensures value { result ≡ length (of_side side self.now).open_runs }
+        ensures few { AreWithin (of_side side self.now).open_runs }
+    {
+        match side {
+            Side::First => self.first.open_runs.len(),
+            Side::Second => self.second.open_runs.len(),
         }
     }
 

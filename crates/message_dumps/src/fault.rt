@@ -21,6 +21,14 @@ pub enum DumpFault {
     NoMemory,
 }
 
+/// A dump that ended before its capture did.
+#[derive(Clone, Copy, Debug, PartialEq, Eq)]
+pub struct CutShort {
+    pub fault: DumpFault,
+    /// Whether messages were told before.
+    pub told: bool,
+}
+
 impl From<AllocError> for DumpFault {
     ghost from_gives = { λ _ fault. fault ≡ NoMemory };
 

@@ -2,6 +2,7 @@
 //! joined, and each octet is told once.
 #![tactic(auto)]
 
+mod capture;
 mod digits;
 mod direction;
 mod dump;
@@ -9,9 +10,9 @@ mod fault;
 mod front;
 mod octets;
 mod open;
+mod open_runs;
 mod patience;
 mod source;
-mod taken;
 mod text;
 mod told;
 mod unread;
@@ -19,9 +20,8 @@ mod words;
 
 pub use digits::{Digits, unread_lines};
 pub use dump::Dump;
-pub use fault::DumpFault;
+pub use fault::{CutShort, DumpFault};
 pub use octets::dump_octets;
-pub use open::message_id;
 pub use patience::{Impatience, Patience};
 pub use source::{Source, SourceFault};
 pub use text::dump_text;

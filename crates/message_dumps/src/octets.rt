@@ -1,92 +1,38 @@
 //! Captures of octets told: of one direction, or of both in two files.
 
+ghost use Rattle.std.specs.Prelude.{◌≡◌, true, false, IfErr, IfOk, IfSome};
+ghost use Rattle.std.specs.String.{string_bytes};
+ghost use Rattle.message_dumps.specs.Outputs.{HasLines, IsBehindLines};
+
+use crate::capture::{Capture, front_lines, last_lines, tell_capture};
 use crate::dump::Dump;
-use crate::fault::DumpFault;
+use crate::fault::{CutShort, DumpFault};
 use crate::patience::Patience;
 use crate::source::Source;
 use crate::words::Words;
 use captures::Side;
-use std::alloc::Global;
+use std::alloc::{AllocError, Global};
 use std::io::{Read, Write};
 
-/// Puts lines on the output.
-pub(crate) fn put<O: Write>(out: &mut O, text: Option<String>) -> Result<bool, DumpFault> {
-    match text {
-        Some(text) => match out.write_all(text.as_bytes()) {
-            Ok(()) => Ok(true),
-            Err(_) => Err(DumpFault::Unwritten),
-        },
-        None => Ok(false),
-    }
-}
-
-/// Tells what stands at the front of a direction, and whether something does.
-pub(crate) fn told<W: Words, O: Write>(
-    words: &mut W,
-    alloc: Global,
-    dump: &mut Dump,
-    side: Side,
-    out: &mut O,
-) -> Result<bool, DumpFault> {
-    let text = dump.tell(words, alloc, side)?;
-    put(out, text)
-}
-
-/// The same, but for a reply to a request that wasn't told yet.
-fn told_in_order<W: Words, O: Write>(
-    words: &mut W,
-    alloc: Global,
-    dump: &mut Dump,
-    side: Side,
-    out: &mut O,
-) -> Result<bool, DumpFault> {
-    if dump.is_early(words, side) {
-        return Ok(false);
-    }
-    told(words, alloc, dump, side, out)
-}
-
-/// Tells what is left of both directions when no more octets come.
-pub(crate) fn told_ends<O: Write>(
-    alloc: Global,
-    dump: &mut Dump,
-    out: &mut O,
-) -> Result<(), DumpFault> {
-    for side in [Side::First, Side::Second] {
-        let text = dump.tell_end(alloc, side)?;
-        put(out, text)?;
-    }
-    flushed(out)
-}
-
-fn flushed<O: Write>(out: &mut O) -> Result<(), DumpFault> {
-    match out.flush() {
-        Ok(()) => Ok(()),
-        Err(_) => Err(DumpFault::Unwritten),
-    }
-}
-
-/// Looks at the next octets of a source, and tells whether there are any. Where it is read on, what was
-/// told stands on the output before.
-pub(crate) fn has_more<R: Read + Drop, O: Write>(
-    source: &mut Source<R>,
-    out: &mut O,
-) -> Result<bool, DumpFault> {
-    if source.is_due() {
-        flushed(out)?;
-    }
-    source.look()?;
-    Ok(!source.octets().is_empty())
+/// The octets of one direction, or of both.
+#[derive(Drop)]
+struct Octets<R> {
+    dump: Dump,
+    first: Source<R>,
+    second: Option<Source<R>>,
+    /// A direction whose reply is told though its request wasn't.
+    forced: Option<Side>,
+    has_ended: bool,
 }
 
 /// Gives a direction the next octets of its source, and tells whether there were any.
-fn filled<R: Read + Drop, O: Write>(
+fn filled<R: Read + Drop>(
     dump: &mut Dump,
     side: Side,
     source: &mut Source<R>,
-    out: &mut O,
 ) -> Result<bool, DumpFault> {
-    if !has_more(source, out)? {
+    source.look()?;
+    if source.octets().is_empty() {
         return Ok(false);
     }
     dump.add(side, source.octets())?;
@@ -94,63 +40,95 @@ fn filled<R: Read + Drop, O: Write>(
     Ok(true)
 }
 
-/// What each of the directions is read from.
-#[derive(Drop)]
-struct Sources<R> {
-    first: Source<R>,
-    second: Option<Source<R>>,
-}
-
-impl<R: Read + Drop> Sources<R> {
-    fn fill<O: Write>(
-        &mut self,
-        dump: &mut Dump,
-        side: Side,
-        out: &mut O,
-    ) -> Result<bool, DumpFault> {
+impl<R: Read + Drop> Octets<R> {
+    /// Gives a direction its next octets, and tells whether there were any.
+    fn fill(&mut self, side: Side) -> Result<bool, DumpFault> {
         match side {
-            Side::First => filled(dump, side, &mut self.first, out),
+            Side::First => filled(&mut self.dump, side, &mut self.first),
             Side::Second => match &mut self.second {
-                Some(source) => filled(dump, side, source, out),
+                Some(source) => filled(&mut self.dump, side, source),
                 None => Ok(false),
             },
         }
     }
+
+    /// The direction that is told first where each front is a reply whose request wasn't told, and the one
+    /// that is read on for it.
+    fn early<W: Words>(&self, words: &W) -> Option<(Side, Side)> {
+        if self.dump.is_early(words, Side::Second) {
+            return Some((Side::Second, Side::First));
+        }
+        if self.dump.is_early(words, Side::First) {
+            return Some((Side::First, Side::Second));
+        }
+        None
+    }
+
+    /// Reads on, and tells whether there was anything left.
+    fn read_on<W: Words>(&mut self, words: &W) -> Result<bool, DumpFault> {
+        match self.early(words) {
+            Some((reply, request)) => {
+                if self.dump.is_early(words, request) || !self.fill(request)? {
+                    self.forced = Some(reply);
+                }
+                Ok(true)
+            }
+            None => Ok(self.fill(Side::Second)? || self.fill(Side::First)?),
+        }
+    }
+
+    /// Tells what stands at the front of a direction, but for a reply to a request that wasn't told yet.
+    fn lines_in_order<W: Words>(
+        &mut self,
+        words: &mut W,
+        alloc: Global,
+        side: Side,
+    ) -> Result<Option<String>, AllocError>
+        ensures { IfOk result (λ o. IfSome o (λ text. HasLines (string_bytes text))) }
+    {
+        if self.dump.is_early(words, side) {
+            return Ok(None);
+        }
+        front_lines(words, alloc, &mut self.dump, side)
+    }
 }
 
-/// The direction that is told first where each front is a reply whose request wasn't told, and the one
-/// that is read on for it.
-fn early<W: Words>(words: &W, dump: &Dump) -> Option<(Side, Side)> {
-    if dump.is_early(words, Side::Second) {
-        return Some((Side::Second, Side::First));
+impl<R: Read + Drop> Capture for Octets<R> {
+    fn tell<W: Words>(
+        &mut self,
+        words: &mut W,
+        alloc: Global,
+    ) -> Result<Option<String>, AllocError> {
+        if let Some(side) = self.forced {
+            self.forced = None;
+            return front_lines(words, alloc, &mut self.dump, side);
+        }
+        if let Some(text) = self.lines_in_order(words, alloc, Side::Second)? {
+            return Ok(Some(text));
+        }
+        if let Some(text) = self.lines_in_order(words, alloc, Side::First)? {
+            return Ok(Some(text));
+        }
+        if self.has_ended {
+            last_lines(alloc, &mut self.dump)
+        } else {
+            Ok(None)
+        }
     }
-    if dump.is_early(words, Side::First) {
-        return Some((Side::First, Side::Second));
-    }
-    None
-}
 
-/// Goes on where nothing can be told: reads on, and tells whether there was anything left.
-fn gone_on<W: Words, R: Read + Drop, O: Write>(
-    words: &mut W,
-    alloc: Global,
-    dump: &mut Dump,
-    sources: &mut Sources<R>,
-    out: &mut O,
-) -> Result<bool, DumpFault> {
-    match early(words, dump) {
-        Some((reply, request)) => {
-            if !dump.is_early(words, request) && sources.fill(dump, request, out)? {
-                return Ok(true);
-            }
-            told(words, alloc, dump, reply, out)
+    fn go_on<W: Words, P: Patience>(
+        &mut self,
+        words: &mut W,
+        _alloc: Global,
+        patience: &mut P,
+    ) -> Result<bool, DumpFault> {
+        if self.has_ended {
+            return Ok(false);
         }
-        None => {
-            if sources.fill(dump, Side::Second, out)? {
-                return Ok(true);
-            }
-            sources.fill(dump, Side::First, out)
+        if !self.read_on(words)? && !patience.waits() {
+            self.has_ended = true;
         }
+        Ok(true)
     }
 }
 
@@ -167,22 +145,17 @@ pub fn dump_octets<W: Words, R: Read + Drop, P: Patience, O: Write>(
     second: Option<Source<R>>,
     patience: &mut P,
     out: &mut O,
-) -> Result<(), DumpFault> {
-    let mut dump = Dump::new(alloc);
-    let mut sources = Sources { first, second };
-    for _ in 0..u64::MAX {
-        if told_in_order(words, alloc, &mut dump, Side::Second, out)? {
-            continue;
-        }
-        if told_in_order(words, alloc, &mut dump, Side::First, out)? {
-            continue;
-        }
-        if gone_on(words, alloc, &mut dump, &mut sources, out)? {
-            continue;
-        }
-        if !patience.waits() {
-            break;
-        }
-    }
-    told_ends(alloc, &mut dump, out)
+) -> Result<(), CutShort>
+    ensures untold { IfErr result (λ cut. cut.told ≡ false → out.new ≡ out.old) }
+    ensures told { IfErr result (λ cut. cut.told ≡ true →
+        IsBehindLines cut.fault (O.contents out.old) (O.contents out.new)) }
+{
+    let capture = Octets {
+        dump: Dump::new(alloc),
+        first,
+        second,
+        forced: None,
+        has_ended: false,
+    };
+    tell_capture(words, alloc, capture, patience, out)
 }

@@ -1,40 +1,44 @@
 //! Messages that come in fragments.
 
-ghost use Rattle.std.specs.Prelude.{◌≡◌, ◌≤◌, ◌-◌, ◌+◌, ◌++◌, ◌↔◌, length, take, drop, true, IfOk};
+ghost use Rattle.std.specs.Prelude.{◌≡◌, ◌≤◌, ◌-◌, ◌+◌, ◌++◌, length, take, drop, true, false, IfOk};
 ghost use Rattle.type_graph.specs.declared.width.Width.TheVariants.{Four};
 ghost use Rattle.type_graph.specs.Words.{plain_word};
 ghost use Rattle.giop_messages.specs.Heads.{flags_in, goes_on, max_size};
-ghost use Rattle.giop_messages.specs.Framing.{added, begun, id_in, sized};
+ghost use Rattle.giop_messages.specs.Framing.{added, begun, sized};
+ghost use Rattle.message_dumps.specs.OpenRuns.{is_followed, is_long, open_at};
 
-use crate::front::{number, order_in};
+use crate::front::order_in;
 use byteorder::{BigEndian, ByteOrder, LittleEndian};
 use giop_messages::{HEAD_LEN, MAX_SIZE};
 use std::alloc::{AllocError, Global};
+use std::marker::Model;
 use type_graph::Order;
 
 /// Where the octets begin that a fragment brings.
 const FRAGMENT_HEAD_LEN: usize = 16;
 
-/// The pieces of a message that have come, as the message that they would be if nothing more came.
+/// The pieces of a message that have come. A contract sees the place of the last one, and the message
+/// that they would be if nothing more came.
 #[derive(Drop)]
 pub(crate) struct OpenMessage {
-    pub(crate) octets: Vec<u8>,
-    ghost numbered: { 16 ≤ length octets.items },
-    ghost limited: { length octets.items ≤ 12 + max_size },
+    octets: Vec<u8>,
+    last: u64,
 }
 
-/// The number behind the head of a message.
-pub fn message_id(message: &[u8]) -> u32
-    requires { 16 ≤ length message.now }
-    ensures { result ≡ id_in message.now }
-{
-    number(order_in(message[6]), &message[HEAD_LEN..])
+impl Model for OpenMessage {
+    ghost use Rattle.message_dumps.specs.OpenRuns.{IsReadable, Open, open_at};
+
+    ghost Value = { Open };
+
+    ghost view = { λ message. open_at message.last message.octets.items };
+
+    ghost invariant = { λ message. IsReadable message.octets.items };
 }
 
 /// Whether fragments follow a message.
 pub(crate) fn begins(message: &[u8]) -> bool
     requires { 12 ≤ length message.now }
-    ensures { result ≡ goes_on (flags_in message.now) }
+    ensures { result ≡ is_followed message.now }
 {
     message[6] / 2 % 2 == 1
 }
@@ -71,43 +75,68 @@ fn renew_size(message: &mut Vec<u8>)
 }
 
 impl OpenMessage {
-    /// The message that a first piece begins.
+    /// The message that a first piece begins, which stands at a place.
     ///
     /// # Errors
     /// Want of memory.
-    pub(crate) fn begin(alloc: Global, first: &[u8]) -> Result<OpenMessage, AllocError>
+    pub(crate) fn begin(alloc: Global, place: u64, first: &[u8]) -> Result<OpenMessage, AllocError>
         requires numbered { 16 ≤ length first.now }
         requires limited { length first.now ≤ 12 + max_size }
         requires goes_on { goes_on (flags_in first.now) ≡ true }
-        ensures { IfOk result (λ message. message.octets.items ≡ begun first.now) }
+        ensures { IfOk result (λ message. message ≡ open_at place (begun first.now)) }
     {
         let mut octets = Vec::new(alloc);
         octets.extend_from_slice(first)?;
         octets[6] -= 2;
-        Ok(OpenMessage { octets })
+        Ok(OpenMessage {
+            octets,
+            last: place,
+        })
     }
 
-    /// Whether it may have the octets of a fragment too.
-    pub(crate) fn has_room(&self, fragment: &[u8]) -> bool
+    /// Where its last piece stands.
+    pub(crate) fn last(&self) -> u64
+        ensures { result ≡ self.now.last }
+    {
+        self.last
+    }
+
+    /// The message that it would be if nothing more came.
+    pub(crate) fn octets(&self) -> &[u8]
+        ensures octets { result.now ≡ self.now.octets }
+        ensures numbered { 16 ≤ length result.now }
+        ensures limited { length result.now ≤ 12 + max_size }
+    {
+        self.octets.as_slice()
+    }
+
+    /// Whether it gets too long with a fragment.
+    pub(crate) fn is_long_with(&self, fragment: &[u8]) -> bool
         requires { 16 ≤ length fragment.now }
-        ensures { (result ≡ true) ↔ (length self.now.octets.items + (length fragment.now - 16) ≤ 12 + max_size) }
+        ensures { result ≡ is_long self.now.octets fragment.now }
     {
         let more = fragment.len() - FRAGMENT_HEAD_LEN;
-        more <= HEAD_LEN + MAX_SIZE as usize - self.octets.len()
+        HEAD_LEN + (MAX_SIZE as usize) < self.octets.len() + more
     }
 
-    /// The message with the next piece.
+    /// The message with the next piece, which stands at a place.
     ///
     /// # Errors
     /// Want of memory.
-    pub(crate) fn with(self, fragment: &[u8]) -> Result<OpenMessage, AllocError>
+    pub(crate) fn with(self, place: u64, fragment: &[u8]) -> Result<OpenMessage, AllocError>
         requires numbered { 16 ≤ length fragment.now }
-        requires limited { length self.octets.items + (length fragment.now - 16) ≤ 12 + max_size }
-        ensures { IfOk result (λ message. message.octets.items ≡ added self.octets.items fragment.now) }
+        requires limited { is_long self.octets fragment.now ≡ false }
+        ensures { IfOk result (λ message. message ≡ open_at place (added self.octets fragment.now)) }
     {
-        let mut octets = self.octets;
+        let OpenMessage {
+            mut octets,
+            last: _,
+        } = self;
         octets.extend_from_slice(&fragment[FRAGMENT_HEAD_LEN..])?;
         renew_size(&mut octets);
-        Ok(OpenMessage { octets })
+        Ok(OpenMessage {
+            octets,
+            last: place,
+        })
     }
 }

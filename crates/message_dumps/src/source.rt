@@ -81,11 +81,6 @@ impl<R: Read + Drop> Source<R> {
         }
     }
 
-    /// Whether the next look at its octets reads on.
-    pub(crate) fn is_due(&self) -> bool {
-        self.is_due
-    }
-
     /// Reads on, where the octets that were read last were used.
     pub(crate) fn look(&mut self) -> Result<(), SourceFault> {
         if self.is_due {

@@ -1,103 +1,126 @@
 //! Captures as text told.
 
-ghost use Rattle.std.specs.Prelude.{◌≤◌, length};
+ghost use Rattle.std.specs.Prelude.{◌≡◌, ◌≤◌, true, false, length, IfErr};
+ghost use Rattle.message_dumps.specs.Outputs.{IsBehindLines};
 
+use crate::capture::{Capture, front_lines, last_lines, tell_capture};
 use crate::dump::Dump;
-use crate::fault::DumpFault;
-use crate::octets::{has_more, told, told_ends};
+use crate::fault::{CutShort, DumpFault};
 use crate::patience::Patience;
 use crate::source::Source;
 use crate::words::Words;
-use captures::{Backlog, CaptureFault, Followed, Piece, Stage, follow_line};
+use captures::{Backlog, CaptureFault, Side, Stage, follow_line};
 use memchr::memchr;
-use std::alloc::Global;
+use std::alloc::{AllocError, Global};
 use std::io::{Read, Write};
 
 /// A line has at most so many octets: the digits of a segment of TCP and a tab, with room.
 const LONGEST_LINE: usize = 262_144;
 
-/// How far a text was read.
+/// A text, as far as it was read.
 #[derive(Drop)]
-struct Reading {
+struct Text<R> {
+    dump: Dump,
+    source: Source<R>,
     /// What was read and isn't a line yet.
     lines: Backlog,
     stage: Stage,
     /// How many lines were read.
     number: u64,
+    /// The direction to which octets came last.
+    side: Side,
+    has_ended: bool,
 }
 
-/// What a line says.
-fn followed(alloc: Global, reading: &Reading, line: &[u8]) -> Result<Followed, DumpFault> {
-    let line = match line.strip_suffix(b"\r".as_slice()) {
-        Some(line) => line,
-        None => line,
-    };
-    match follow_line(alloc, reading.stage, line) {
-        Ok(said) => Ok(said),
-        Err(CaptureFault::BadCapture) => Err(DumpFault::BadCapture {
-            line: reading.number,
-        }),
-        Err(CaptureFault::NoMemory) => Err(DumpFault::NoMemory),
+impl<R: Read + Drop> Text<R> {
+    /// The fault that the line which was read last is none.
+    fn bad_line(&self) -> DumpFault {
+        DumpFault::BadCapture { line: self.number }
+    }
+
+    /// Takes a line of so many octets away, and what it says.
+    fn take_line(&mut self, alloc: Global, len: usize) -> Result<(), DumpFault> {
+        self.number = self.number.saturating_add(1);
+        let octets = self.lines.octets.as_slice();
+        let len = len.min(octets.len());
+        let (line, behind) = octets.split_at(len);
+        let passed = if behind.is_empty() { len } else { len + 1 };
+        let said = match follow_line(alloc, self.stage, line) {
+            Ok(said) => said,
+            Err(CaptureFault::BadCapture) => return Err(self.bad_line()),
+            Err(CaptureFault::NoMemory) => return Err(DumpFault::NoMemory),
+        };
+        self.stage = said.stage;
+        self.lines.pass(passed);
+        if let Some(piece) = said.piece {
+            self.side = piece.side;
+            self.dump.add(piece.side, piece.octets.as_slice())?;
+        }
+        Ok(())
+    }
+
+    /// Reads on, and tells whether more came. A line that is too long is none.
+    fn read_on(&mut self) -> Result<bool, DumpFault> {
+        if self.lines.octets.len() > LONGEST_LINE {
+            self.number = self.number.saturating_add(1);
+            return Err(self.bad_line());
+        }
+        self.source.look()?;
+        if self.source.octets().is_empty() {
+            return Ok(false);
+        }
+        self.lines.add(self.source.octets())?;
+        self.source.pass();
+        Ok(true)
+    }
+
+    /// Takes away what is left when no more comes, and tells whether there may be more to tell.
+    fn end(&mut self, alloc: Global) -> Result<bool, DumpFault> {
+        let left = self.lines.octets.len();
+        if left > 0 {
+            self.take_line(alloc, left)?;
+            return Ok(true);
+        }
+        if self.stage != Stage::Behind {
+            return Err(self.bad_line());
+        }
+        let had_ended = self.has_ended;
+        self.has_ended = true;
+        Ok(!had_ended)
     }
 }
 
-/// Tells what the octets of a line make whole.
-fn told_piece<W: Words, O: Write>(
-    words: &mut W,
-    alloc: Global,
-    dump: &mut Dump,
-    piece: &Piece,
-    out: &mut O,
-) -> Result<(), DumpFault> {
-    dump.add(piece.side, piece.octets.as_slice())?;
-    for _ in 0..u64::MAX {
-        if !told(words, alloc, dump, piece.side, out)? {
-            break;
+impl<R: Read + Drop> Capture for Text<R> {
+    fn tell<W: Words>(
+        &mut self,
+        words: &mut W,
+        alloc: Global,
+    ) -> Result<Option<String>, AllocError> {
+        if let Some(text) = front_lines(words, alloc, &mut self.dump, self.side)? {
+            return Ok(Some(text));
+        }
+        if self.has_ended {
+            last_lines(alloc, &mut self.dump)
+        } else {
+            Ok(None)
         }
     }
-    Ok(())
-}
 
-/// Takes a line of so many octets away, and tells what it makes whole.
-fn told_line<W: Words, O: Write>(
-    words: &mut W,
-    alloc: Global,
-    dump: &mut Dump,
-    reading: &mut Reading,
-    len: usize,
-    out: &mut O,
-) -> Result<(), DumpFault>
-    requires { len ≤ length reading.old.lines.octets.items }
-{
-    reading.number = reading.number.saturating_add(1);
-    let (line, behind) = reading.lines.octets.as_slice().split_at(len);
-    let passed = if behind.is_empty() { len } else { len + 1 };
-    let said = followed(alloc, reading, line)?;
-    reading.stage = said.stage;
-    reading.lines.pass(passed);
-    match said.piece {
-        Some(piece) => told_piece(words, alloc, dump, &piece, out),
-        None => Ok(()),
+    fn go_on<W: Words, P: Patience>(
+        &mut self,
+        _words: &mut W,
+        alloc: Global,
+        patience: &mut P,
+    ) -> Result<bool, DumpFault> {
+        if let Some(len) = memchr(b'\n', self.lines.octets.as_slice()) {
+            self.take_line(alloc, len)?;
+            return Ok(true);
+        }
+        if self.read_on()? || patience.waits() {
+            return Ok(true);
+        }
+        self.end(alloc)
     }
-}
-
-/// Reads on, and tells whether more came. A line that is too long is none.
-fn read_on<R: Read + Drop, O: Write>(
-    reading: &mut Reading,
-    source: &mut Source<R>,
-    out: &mut O,
-) -> Result<bool, DumpFault> {
-    if reading.lines.octets.len() > LONGEST_LINE {
-        return Err(DumpFault::BadCapture {
-            line: reading.number.saturating_add(1),
-        });
-    }
-    if !has_more(source, out)? {
-        return Ok(false);
-    }
-    reading.lines.add(source.octets())?;
-    source.pass();
-    Ok(true)
 }
 
 /// Tells the messages of both directions, as they went, by what tshark prints of them. At the end of what
@@ -112,32 +135,19 @@ pub fn dump_text<W: Words, R: Read + Drop, P: Patience, O: Write>(
     source: Source<R>,
     patience: &mut P,
     out: &mut O,
-) -> Result<(), DumpFault> {
-    let mut source = source;
-    let mut dump = Dump::new(alloc);
-    let mut reading = Reading {
+) -> Result<(), CutShort>
+    ensures untold { IfErr result (λ cut. cut.told ≡ false → out.new ≡ out.old) }
+    ensures told { IfErr result (λ cut. cut.told ≡ true →
+        IsBehindLines cut.fault (O.contents out.old) (O.contents out.new)) }
+{
+    let capture = Text {
+        dump: Dump::new(alloc),
+        source,
         lines: Backlog::new(alloc),
         stage: Stage::Before,
         number: 0,
+        side: Side::First,
+        has_ended: false,
     };
-    for _ in 0..u64::MAX {
-        match memchr(b'\n', reading.lines.octets.as_slice()) {
-            Some(len) => told_line(words, alloc, &mut dump, &mut reading, len, out)?,
-            None => {
-                if !read_on(&mut reading, &mut source, out)? && !patience.waits() {
-                    break;
-                }
-            }
-        }
-    }
-    let left = reading.lines.octets.len();
-    if left > 0 {
-        told_line(words, alloc, &mut dump, &mut reading, left, out)?;
-    }
-    if reading.stage != Stage::Behind {
-        return Err(DumpFault::BadCapture {
-            line: reading.number,
-        });
-    }
-    told_ends(alloc, &mut dump, out)
+    tell_capture(words, alloc, capture, patience, out)
 }

@@ -6,7 +6,8 @@ use crate::asked::Requests;
 use crate::frames::Types;
 use crate::message::whole_lines;
 use captures::Side;
-use message_dumps::{Words, message_id};
+use giop_messages::message_id;
+use message_dumps::Words;
 use std::alloc::{AllocError, Global};
 
 /// The number of the type of replies (ISO/IEC 19500-2, GIOP message header).
