@@ -1,5 +1,8 @@
 //! Captures that were opened.
 
+ghost use Rattle.std.specs.Prelude.{IfErr};
+ghost use Rattle.dump_commands.specs.Faults.{IsUntold};
+
 use crate::fault::CaptureFault;
 use crate::files::CaptureFiles;
 use captures::{CaptureForm, form_of};
@@ -41,7 +44,9 @@ fn file_in<'a>(word: Option<&'a str>) -> &'a str {
 fn source_of<'a, R: CaptureFiles + AllocGlobal>(
     rt: &R,
     file: &'a str,
-) -> Result<(Source<R::Reader>, CaptureForm), CaptureFault<'a>> {
+) -> Result<(Source<R::Reader>, CaptureForm), CaptureFault<'a>>
+    ensures { IfErr result IsUntold }
+{
     let Ok(reader) = rt.reader_of(file) else {
         return Err(CaptureFault::Unread { file });
     };
@@ -65,7 +70,9 @@ fn direction_of<'a, R: CaptureFiles + AllocGlobal>(
     rt: &R,
     file: &'a str,
     follows: bool,
-) -> Result<Source<R::Reader>, CaptureFault<'a>> {
+) -> Result<Source<R::Reader>, CaptureFault<'a>>
+    ensures { IfErr result IsUntold }
+{
     match source_of(rt, file) {
         Ok((source, CaptureForm::Octets)) => Ok(grown(source, follows)),
         Ok((_, CaptureForm::Text)) => Err(CaptureFault::NotCapture { file }),
@@ -79,7 +86,9 @@ fn capture_in_two<'a, R: CaptureFiles + AllocGlobal>(
     file: &'a str,
     back: &'a str,
     follows: bool,
-) -> Result<Capture<R::Reader>, CaptureFault<'a>> {
+) -> Result<Capture<R::Reader>, CaptureFault<'a>>
+    ensures { IfErr result IsUntold }
+{
     let first = match direction_of(rt, file, follows) {
         Ok(first) => first,
         Err(fault) => return Err(fault),
@@ -99,7 +108,9 @@ fn capture_in_one<'a, R: CaptureFiles + AllocGlobal>(
     rt: &R,
     file: &'a str,
     follows: bool,
-) -> Result<Capture<R::Reader>, CaptureFault<'a>> {
+) -> Result<Capture<R::Reader>, CaptureFault<'a>>
+    ensures { IfErr result IsUntold }
+{
     match source_of(rt, file) {
         Ok((first, form)) => Ok(Capture {
             form,
@@ -115,7 +126,9 @@ fn capture_in_one<'a, R: CaptureFiles + AllocGlobal>(
 pub fn open_capture<'a, R: CaptureFiles + AllocGlobal>(
     rt: &R,
     names: &CaptureNames<'a>,
-) -> Result<Capture<R::Reader>, CaptureFault<'a>> {
+) -> Result<Capture<R::Reader>, CaptureFault<'a>>
+    ensures { IfErr result IsUntold }
+{
     let file = file_in(names.file);
     let follows = names.follows && file != INPUT;
     match names.back {

@@ -1,7 +1,8 @@
 //! Captures told.
 
-ghost use Rattle.std.specs.Prelude.{◌≡◌, IfErr};
-ghost use Rattle.dump_commands.specs.Faults.{IsUntold};
+ghost use Rattle.std.specs.Prelude.{◌≡◌, true, false, IfErr};
+ghost use Rattle.message_dumps.specs.Outputs.{IsBehindLines};
+ghost use Rattle.dump_commands.specs.Faults.{IsOutput};
 
 use crate::capture::{Capture, CaptureNames, open_capture};
 use crate::fault::CaptureFault;
@@ -9,7 +10,7 @@ use crate::files::CaptureFiles;
 use captures::CaptureForm;
 use giop::Giop;
 use giop_types::GiopTypes;
-use message_dumps::{DumpFault, Patience, dump_octets, dump_text};
+use message_dumps::{CutShort, Patience, dump_octets, dump_text};
 use message_words::{TableWords, Types};
 use part_names::PartNames;
 use position_checker::Accepted;
@@ -72,7 +73,11 @@ fn told<R: Clock + AllocGlobal, T: Read + Drop, O: Write>(
     types: Types<'_>,
     capture: Capture<T>,
     out: &mut O,
-) -> Result<(), DumpFault> {
+) -> Result<(), CutShort>
+    ensures untold { IfErr result (λ cut. cut.told ≡ false → out.new ≡ out.old) }
+    ensures told { IfErr result (λ cut. cut.told ≡ true →
+        IsBehindLines cut.fault (O.contents out.old) (O.contents out.new)) }
+{
     let Capture {
         form,
         first,
@@ -90,8 +95,8 @@ fn told<R: Clock + AllocGlobal, T: Read + Drop, O: Write>(
 /// Tells the messages of a capture, each as soon as it was read, by the types of a table.
 ///
 /// # Errors
-/// A file can't be read, or is no capture: then nothing is told. What cuts a dump short: then messages were
-/// told up to there. Want of memory.
+/// A file can't be read, or is no capture; the text has a line that is none; want of memory: then nothing was
+/// told. `CutShort` where it ends behind told messages, a file can't be read on, or the output written.
 pub fn dump_capture<'a, R: CaptureFiles + Clock + AllocGlobal, O: Write>(
     rt: &R,
     table: &Accepted,
@@ -99,7 +104,7 @@ pub fn dump_capture<'a, R: CaptureFiles + Clock + AllocGlobal, O: Write>(
     files: &CaptureNames<'a>,
     out: &mut O,
 ) -> Result<(), CaptureFault<'a>>
-    ensures untold { IfErr result (λ fault. IsUntold fault → out.new ≡ out.old) }
+    ensures output { IfErr result (λ fault. IsOutput O.contents fault out.old out.new) }
 {
     let capture = match open_capture(rt, files) {
         Ok(capture) => capture,
@@ -111,6 +116,6 @@ pub fn dump_capture<'a, R: CaptureFiles + Clock + AllocGlobal, O: Write>(
     };
     match told(rt, own.with(table, names), capture, out) {
         Ok(()) => Ok(()),
-        Err(fault) => Err(CaptureFault::CutShort(fault)),
+        Err(cut) => Err(CaptureFault::of(cut)),
     }
 }
