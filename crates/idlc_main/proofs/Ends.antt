@@ -3,7 +3,7 @@ use Rattle.std.proofs.Common.{◌≡◌, refl, sym, ◌∙◌, subst, ℕ, ◌�
 use Rattle.std.specs.Io.KnownBytes.{Appends}
 use Rattle.idlc_main.specs.declared.told.Answer.{Answer}
 use Rattle.idlc_main.specs.declared.fault.Fault.{Fault}
-use Rattle.idlc_main.specs.declared.fault.Fault.TheVariants.{Words, NotText, Refused, Unsaid, NotCompiled, Explained, NotSpelled, NotCapture, CutShort, NoOperation, NotCalled, NotServed, Socket, NoRefusal, Unwritten, NoMemory}
+use Rattle.idlc_main.specs.declared.fault.Fault.TheVariants.{Words, NotText, Refused, Unsaid, NotCompiled, Explained, NotSpelled, NotCapture, BadLine, CutShort, NoOperation, NotCalled, NotServed, Socket, NoRefusal, Unwritten, NoMemory}
 use Rattle.command_words.specs.declared.mistake.Mistake.{Mistake}
 use Rattle.command_words.specs.declared.mistake.Mistake.TheVariants as mistakes
 use Rattle.idl_compiler.specs.declared.refusal.CompileRefusal.{CompileRefusal}
@@ -104,6 +104,7 @@ ends_meant Reads word old new (NotCompiled refusal) status is told = absurd told
 ends_meant Reads word old new (Explained refusal view) status is told = absurd told
 ends_meant Reads word old new (NotSpelled other) status is told = absurd told
 ends_meant Reads word old new (NotCapture other) status is told = absurd told
+ends_meant Reads word old new (BadLine other) status is told = absurd told
 ends_meant Reads word old new (CutShort other) status is told = absurd told
 ends_meant Reads word old new (NoOperation other) status is told = absurd told
 ends_meant Reads word old new (NotCalled other) status is told = absurd told
@@ -131,6 +132,7 @@ ends_described Reads word old new NotText status is told = absurd told
 ends_described Reads word old new (NotCompiled refusal) status is told = absurd told
 ends_described Reads word old new (Explained refusal view) status is told = absurd told
 ends_described Reads word old new (NotCapture other) status is told = absurd told
+ends_described Reads word old new (BadLine other) status is told = absurd told
 ends_described Reads word old new (CutShort other) status is told = absurd told
 ends_described Reads word old new (NoOperation other) status is told = absurd told
 ends_described Reads word old new (NotCalled other) status is told = absurd told

@@ -17,7 +17,7 @@ use Rattle.socket_server.specs.declared.fault.ServeFault.TheVariants as serve_fa
 use Rattle.named_tables.specs.declared.fault.NamedFault.{NamedFault}
 use Rattle.named_tables.specs.declared.fault.NamedFault.TheVariants as named
 use Rattle.idlc_main.specs.declared.fault.Fault.{Fault}
-use Rattle.idlc_main.specs.declared.fault.Fault.TheVariants.{Words, NotText, Refused, Unsaid, NotCompiled, Explained, NotSpelled, NotCapture, CutShort, NoOperation, NotCalled, NotServed, Socket, NoRefusal, Unwritten, NoMemory}
+use Rattle.idlc_main.specs.declared.fault.Fault.TheVariants.{Words, NotText, Refused, Unsaid, NotCompiled, Explained, NotSpelled, NotCapture, BadLine, CutShort, NoOperation, NotCalled, NotServed, Socket, NoRefusal, Unwritten, NoMemory}
 
 abbrev pub status_of_refusal : Refusal → ℕ
 status_of_refusal (refusals.Unread file) = 3
@@ -39,6 +39,7 @@ status_of (NotCompiled refusal) = 1
 status_of (Explained refusal view) = 1
 status_of (NotSpelled fault) = status_of_spelling fault
 status_of (NotCapture file) = 1
+status_of (BadLine line) = 1
 status_of (CutShort fault) = 3
 status_of (NoOperation word) = 1
 status_of (NotCalled refusal) = 1

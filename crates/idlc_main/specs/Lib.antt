@@ -4,3 +4,4 @@ pub mod Called
 pub mod Descriptions
 pub mod Fault
 pub mod Service
+pub mod Dumps

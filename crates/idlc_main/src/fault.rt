@@ -80,6 +80,11 @@ pub enum Fault<'a> {
     NotCapture {
         file: &'a str,
     },
+    /// A line of a capture is none of its form, and no message was told before.
+    #[error("142 BadCapture line {line}")]
+    BadLine {
+        line: u64,
+    },
     /// Messages of a capture were told, but not to its end.
     #[error(transparent)]
     CutShort(DumpFault),
@@ -148,6 +153,7 @@ impl<'a> Fault<'a> {
             | Fault::NotCompiled(_)
             | Fault::Explained { .. }
             | Fault::NotCapture { .. }
+            | Fault::BadLine { .. }
             | Fault::NoOperation { .. }
             | Fault::NotCalled(_)
             | Fault::NotServed(_) => 1,
