@@ -1,7 +1,7 @@
 -- Worked streams.
 use Rattle.std.proofs.Common.{◌≡◌, ℕ, List, [], ◌∷◌, ◌++◌, take, None, Some, refl}
 use Rattle.giop_messages.specs.declared.fault.FramingFault.TheVariants.{NotGiop, Version, TooLong, BadHead, BadFragment}
-use Rattle.giop_messages.specs.Framing.{More, Broken, Piece, Whole, front, begun}
+use Rattle.giop_messages.specs.Framing.{More, Broken, Piece, Whole, front, begun, cancels}
 
 -- a request: number 1, key K, operation ping, no body
 ping : List ℕ
@@ -106,12 +106,12 @@ ends = refl
 
 -- whole messages may come between the pieces
 between : front (Some (begun first)) (ping_2 ++ last) ≡ Whole ping_2 (Some (begun first)) last
-unfolding first last ping_2
+unfolding first last ping_2 cancels
 between = refl
 
 -- a cancel request drops the pieces that came
 cancelled : front (Some (begun first)) cancel ≡ Whole cancel None []
-unfolding first cancel
+unfolding first cancel cancels
 cancelled = refl
 
 -- broken rules of fragments

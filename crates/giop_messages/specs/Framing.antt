@@ -79,7 +79,7 @@ is_asking run = nat_eq (type_in run) request_type || nat_eq (type_in run) locate
 
 -- What a cancel request ends: the run, in its own direction, of the request or locate request with its number. The
 -- pieces that came are given up, and no fragment belongs to them any more (own).
-abbrev pub cancels : List ℕ → List ℕ → Bool
+unfoldable pub cancels : List ℕ → List ℕ → Bool
 cancels run message =
     nat_eq (type_in message) cancel_request_type && not (nat_lt (length message) 16) && is_asking run
     && nat_eq (id_in message) (id_in run)

@@ -30,6 +30,7 @@ fn is_asking(message: &[u8]) -> bool
 
 /// Whether a message is a cancel request that ends a run of its direction: the run is of a request or a
 /// locate request and has the same number.
+#[tactic(auto, unfolding(crate::specs::Framing::cancels))]
 pub fn cancels(run: &[u8], message: &[u8]) -> bool
     requires { 16 ≤ length run.now }
     ensures { result ≡ cancels_run run.now message.now }

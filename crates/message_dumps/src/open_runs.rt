@@ -143,6 +143,7 @@ impl OpenRuns {
     }
 
     /// Lets go of the run that a message cancels, if it cancels one.
+    #[tactic(auto, unfolding(giop_messages::specs::Framing::cancels))]
     pub(crate) fn cancel(&mut self, message: &[u8])
         ensures { self.new ≡ left_by message.now self.old }
     {
