@@ -11,6 +11,7 @@ import shutil
 import socket
 import struct
 import subprocess
+import time
 
 from driver.suite import Count
 from driver.workspace import TOP
@@ -158,6 +159,32 @@ def few_files(table, count):
     count.add(told == (0, "", "idlc: no connection can be accepted, trying again\n"), f"where files are wanting: {told}")
 
 
+def no_files(table):
+    """A client is served on for longer than accepts are tried again where nobody is there: silent ones have all files."""
+    count = Count(0, [])
+    server = Server(table, 32, "--at-once", "64", files=16)
+    answers = 0
+    with server.connect() as served:
+        call(served, 1, "ping")
+        silent = [server.connect() for _ in range(30)]
+        try:
+            for turn in range(90):
+                answers += call(served, turn, "ping") == b""
+                time.sleep(1)
+        except (OSError, EOFError):
+            pass
+    count.add(answers == 90, f"{answers} calls where files are wanting")
+    for stream in silent:
+        stream.close()
+    if server.process.poll() is None:
+        with server.connect() as stream:
+            count.add(call(stream, 1, "ping") == b"", "behind those that had all files")
+    out, err = server.process.communicate(timeout=60)
+    told = (server.process.returncode, out, err)
+    count.add(told == (0, "", "idlc: no connection can be accepted, trying again\n"), f"where files are wanting for long: {told}")
+    return count
+
+
 def idle(table, count):
     for words in (("--idle", "1"), ("--idle", "1", "--at-once", "2")):
         server = Server(table, 2, *words)
@@ -166,6 +193,74 @@ def idle(table, count):
         with server.connect() as stream:
             count.add(call(stream, 1, "ping") == b"", "behind an idle client")
         count.add(server.end() == (0, True), "after an idle client")
+
+
+def dripping(stream, octets, pause):
+    """Sends an octet at a time, until the other side closes."""
+    try:
+        for octet in octets:
+            stream.sendall(bytes([octet]))
+            time.sleep(pause)
+    except OSError:
+        pass
+
+
+def slow_senders(table, count):
+    """Clients that send an octet a second keep one that comes behind them waiting for a few seconds at most."""
+    clients = 8
+    server = Server(table, clients + 1, "--at-once", str(clients), "--idle", "2")
+    slow = [server.connect() for _ in range(clients)]
+    with concurrent.futures.ThreadPoolExecutor(clients) as pool:
+        drips = [pool.submit(dripping, stream, request(1, "ping"), 1) for stream in slow]
+        time.sleep(0.5)
+        start = time.monotonic()
+        with server.connect() as stream:
+            count.add(call(stream, 1, "ping") == b"", "behind slow senders")
+        waited = time.monotonic() - start
+        count.add(waited < 6, f"it waited for {waited:.1f} seconds behind slow senders")
+        for stream in slow:
+            count.add(read_to_end(stream) in (CLOSE, None), "a slow sender is let go of")
+            stream.close()
+        for drip in drips:
+            drip.result()
+    count.add(server.end() == (0, True), "after slow senders")
+
+
+def sipping(stream, seconds):
+    """Reads a few octets at a time, for so long at most or until the other side closes."""
+    got = b""
+    end = time.monotonic() + seconds
+    try:
+        while time.monotonic() < end and (more := stream.recv(2048)):
+            got += more
+            time.sleep(0.02)
+    except OSError:
+        pass
+    return got
+
+
+def slow_readers(table, count):
+    """The same behind clients that read a large answer slowly."""
+    clients = 8
+    for words in (("--at-once", str(clients)), ()):
+        there = clients if words else 1
+        server = Server(table, there + 1, *words, "--idle", "2")
+        slow = [server.connect(room=4096) for _ in range(there)]
+        asked = request(1, "echo", text(bytes([65]) * 1000000))
+        with concurrent.futures.ThreadPoolExecutor(there) as pool:
+            list(pool.map(lambda stream: stream.sendall(asked), slow))
+            sips = [pool.submit(sipping, stream, 15) for stream in slow]
+            start = time.monotonic()
+            with server.connect() as stream:
+                count.add(call(stream, 1, "ping") == b"", "behind slow readers")
+            waited = time.monotonic() - start
+            count.add(waited < 5, f"it waited for {waited:.1f} seconds behind slow readers")
+            for sip in sips:
+                # on a busy host its request may be late before it has an answer
+                count.add(sip.result()[:4] == b"GIOP", "a slow reader gets a front of an answer, or CloseConnection")
+        for stream in slow:
+            stream.close()
+        count.add(server.end() == (0, True), "after slow readers")
 
 
 def read_to_end(stream):
@@ -281,7 +376,13 @@ def run(test):
     table = test.room / "hello.table"
     made = test.call([PROGRAM, "compile", TOP / "examples" / "idl" / "hello.idl", "-o", table])
     count.add(made.status == 0, f"hello.idl: {made.err}")
-    for part in (one_silent, sixty_four, bounded, breaking_off, few_files, idle, unread, status_line, usage):
-        part(table, count)
-    orb(table, count, test.room)
+    with concurrent.futures.ThreadPoolExecutor(1) as pool:
+        # it takes a minute, and next to no processor
+        long = pool.submit(no_files, table)
+        for part in (one_silent, sixty_four, bounded, breaking_off, few_files, idle, slow_senders, slow_readers, unread, status_line, usage):
+            part(table, count)
+        orb(table, count, test.room)
+        there = long.result()
+    count.passed += there.passed
+    count.failures += there.failures
     return count

@@ -100,7 +100,7 @@ at_once_rule = record (new_rule (codes "at-once")) {
   parser = Some (Signed (pos 1) (pos 64));
 }
 
--- after how many seconds without octets a connection ends, which may be left out
+-- after how many seconds a connection ends that is silent or slow, which may be left out
 abbrev pub idle_rule : Rule
 idle_rule = record (new_rule (codes "idle")) {
   long = Some (codes "idle");

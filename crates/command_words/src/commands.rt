@@ -265,7 +265,7 @@ fn idle_option<'a>(alloc: Global) -> Arg<'a>
     Arg::new(alloc, "idle")
         .long("idle")
         .value_name("S")
-        .help("A connection without octets for so many seconds ends, 0 to 86400; 0 or else: none")
+        .help("A connection silent or slow for so many seconds ends, 0 to 86400; 0 or else: none")
         .value_parser(value_parser!(u32).range(0..86401))
 }
 

@@ -1,7 +1,7 @@
 -- Connections that are served go on.
-use Rattle.std.proofs.Common.{◌≡◌, ◌≢◌, inl, inr, ◌⊎◌, ℕ, zero, suc, ◌<◌, List, [], ◌∷◌, ◌++◌, length, length-append, map, Some, None, slice_get, append-nil, append_assoc, refl, sym, ap, subst, ◌∙◌, arith}
+use Rattle.std.proofs.Common.{◌≡◌, ◌≢◌, inl, inr, ◌⊎◌, ℕ, zero, suc, ◌<◌, List, [], ◌∷◌, ◌++◌, length, length-append, map, Option, Some, None, true, slice_get, append-nil, append_assoc, refl, sym, ap, subst, ◌∙◌, arith}
 use Rattle.std.specs.List.{All, Contains}
-use Rattle.std.proofs.lemmas.List.Elements.{All-nil, All-cons, All-head, All-tail, All-push, All-weaker, Contains-append_left, Contains-append_right, Contains-append_cases, Contains-push}
+use Rattle.std.proofs.lemmas.List.Elements.{All-nil, All-append, All-cons, All-head, All-tail, All-push, All-weaker, Contains-append_left, Contains-append_right, Contains-append_cases, Contains-push}
 use Rattle.broker_answers.specs.Streams.{Stream}
 use Rattle.broker_answers.specs.Talk.{Event, Begins, GivesUp, Ends as Leaving, World, world, rests, Happens, Opens, Leaves}
 use Rattle.broker_answers.specs.Servants.{Acting}
@@ -12,15 +12,19 @@ use Rattle.iiop_broker.specs.Outcomes.{Ends}
 use Rattle.iiop_broker.proofs.Going.{gives_start}
 use Rattle.iiop_broker.proofs.Written.{adds_nothing, adds_then}
 use Rattle.event_loop.specs.declared.slot.Course.TheVariants.{Over}
-use Rattle.event_loop.specs.Carried.{Log, answered, brought, connection_of}
-use Rattle.event_loop.specs.Visits.{IsShut, IsGivenUp, IsFinished, IsForsaken, HasEnded, IsIdle, IsLast, Gone, gone, IsCarried}
+use Rattle.event_loop.specs.Carried.{Log, answered, brought, connection_of, hearings}
+use Rattle.event_loop.specs.Limits.{IsTimed}
+use Rattle.event_loop.specs.Telling.{IsAsked, IsNew, Trace}
+use Rattle.event_loop.specs.Visits.{IsShut, IsGivenUp, IsFinished, IsForsaken, HasEnded, IsLast, Gone, gone, IsCarried}
 use Rattle.event_loop.specs.declared.listener.End.{End}
-use Rattle.event_loop.specs.declared.listener.End.TheVariants.{Finished, Failed, GivenUp, Idle}
-use Rattle.event_loop.specs.inner.Turns.{IsLetGo}
+use Rattle.event_loop.specs.declared.listener.End.TheVariants.{Finished, Failed, GivenUp, Late}
+use Rattle.event_loop.specs.inner.Turns.{IsHandedBack, IsLetGo}
+use Rattle.event_loop.specs.inner.Waits.{unwaited}
 use Rattle.event_loop.specs.inner.Going.{Slotted, slotted, numbers, keys, IsRising, IsOpen, IsGone, IsGoing, IsOn}
 use Rattle.event_loop.proofs.Parts.{all_parts, all_joined, rising_apart, rising_without, rising_with}
-use Rattle.event_loop.proofs.Logs.{brought_own, answered_own, brought_other, answered_other, brought_none, answered_none, follows_more}
+use Rattle.event_loop.proofs.Logs.{brought_own, answered_own, brought_other, answered_other, brought_none, answered_none, hearings_none, hearings_other, hearings_same, follows_more}
 use Rattle.event_loop.proofs.Keys.{keys_without}
+use Rattle.event_loop.proofs.Times.{asked_new, let_go_asked, let_go_timed, timed_never}
 
 -- ---- lists
 
@@ -48,7 +52,7 @@ all_to_map P f [] h = All-nil P
 all_to_map P f (x ∷ xs) h =
     All-cons P (f x) (map f xs) (All-head (λ y. P (f y)) x xs h) (all_to_map P f xs (All-tail (λ y. P (f y)) x xs h))
 
-all_both : {A : Type 0} (P Q R : A → Type 0) (xs : List A) → ((x : A) → P x → Q x → R x) → All P xs → All Q xs → All R xs
+pub all_both : {A : Type 0} (P Q R : A → Type 0) (xs : List A) → ((x : A) → P x → Q x → R x) → All P xs → All Q xs → All R xs
 all_both P Q R [] h p q = All-nil R
 all_both P Q R (x ∷ xs) h p q =
     All-cons R x xs (h x (All-head P x xs p) (All-head Q x xs q)) (all_both P Q R xs h (All-tail P x xs p) (All-tail Q x xs q))
@@ -106,13 +110,23 @@ module _ {S : Type 0} (acting : Acting S) (served : Served) (idle : ℕ) (before
     by (inl given) = inl (given_still said more c given)
     by (inr none) = inr (same ∙ none)
 
-  pub ended_still : (said more : Log) (c : ℕ) (waiting : List ℕ) (to : Ends) (quiet : ℕ) (end : End) → brought c (said ++ more) ≡ brought c said
-      → HasEnded acting served idle before said c waiting to quiet end
-      → HasEnded acting served idle before (said ++ more) c waiting to quiet end
-  ended_still said more c waiting to quiet Finished same h = finished_still said more c waiting to h
-  ended_still said more c waiting to quiet Failed same h = h
-  ended_still said more c waiting to quiet GivenUp same h = forsaken_still said more c waiting same h
-  ended_still said more c waiting to quiet Idle same h = h
+  pub ended_still : (said more : Log) (c : ℕ) (waiting : List ℕ) (to : Ends) (end : End) → brought c (said ++ more) ≡ brought c said
+      → HasEnded acting served idle before said c waiting to end
+      → HasEnded acting served idle before (said ++ more) c waiting to end
+  ended_still said more c waiting to Finished same h = finished_still said more c waiting to h
+  ended_still said more c waiting to Failed same h = h
+  ended_still said more c waiting to GivenUp same h = forsaken_still said more c waiting same h
+  ended_still said more c waiting to (Late limit) same h = h
+
+  timed_still : (said said' : Log) (c : ℕ) (to : Gone) → hearings c said' ≡ hearings c said → IsTimed idle said c to.trace to.end
+      → IsTimed idle said' c to.trace to.end
+  timed_still said said' c to same h = record {
+    deeds = h.deeds;
+    last = h.last;
+    pieces_are = same ∙ h.pieces_are;
+    noted = h.noted;
+    timely = h.timely;
+  }
 
   carried_still : (said : Log) (e : Event) (a : List ℕ) (c : ℕ) (from : Ends) (to : Gone) → connection_of e ≢ c
       → IsCarried acting served idle before said c from to → IsCarried acting served idle before (said ++ (e, a) ∷ []) c from to
@@ -124,7 +138,9 @@ module _ {S : Type 0} (acting : Acting S) (served : Served) (idle : ℕ) (before
     read = subst (λ (o : List ℕ). Gives from.left o to.told.left) (sym (brought_other c said e a differs)) h.read;
     wrote = h.wrote;
     last_is = h.last_is;
-    ended = ended_still said ((e, a) ∷ []) c h.waiting to.told to.quiet to.end (brought_other c said e a differs) h.ended;
+    ended = ended_still said ((e, a) ∷ []) c h.waiting to.told to.end (brought_other c said e a differs) h.ended;
+    asked = h.asked;
+    timed = λ some. timed_still said (said ++ (e, a) ∷ []) c to (hearings_other c said e a differs) (h.timed some);
   }
 
   open_still : (said : Log) (e : Event) (a : List ℕ) (came : List Ends) (s : Slotted) → connection_of e ≢ s.number
@@ -240,9 +256,21 @@ module _ {S : Type 0} (acting : Acting S) (served : Served) (idle : ℕ) (before
       in_either c ns (inl there) = inl (subst (λ (xs : List ℕ). Contains xs c) ns there)
       in_either c ns (inr there) = inr there
 
+  -- ---- the times of the others
+
+  pub others_apart : (came : List Ends) (ended : List (ℕ × Gone)) (w : World S Stream) (front : List Slotted) (s : Slotted)
+      (back : List Slotted) → IsGoing acting served idle before came ended w (front ++ s ∷ back)
+      → All (λ x. x.number ≢ s.number) (front ++ back)
+  others_apart came ended w front s back g =
+      let rising = subst (IsRising 0) (map_joined (λ (x : Slotted). x.number) front s back) g.rising in
+      let apart = rising_apart 0 (numbers front) s.number (numbers back) rising in
+      All-append (λ x. x.number ≢ s.number) front back
+      (all_of_map (λ n. n ≢ s.number) (λ (x : Slotted). x.number) front apart.0)
+      (all_of_map (λ n. n ≢ s.number) (λ (x : Slotted). x.number) back apart.1)
+
   -- ---- one more
 
-  all_below : (said : Log) (came : List Ends) (slots : List Slotted) → All (IsOpen said came) slots
+  pub all_below : (said : Log) (came : List Ends) (slots : List Slotted) → All (IsOpen said came) slots
       → All (λ x. x.number < length came) slots
   all_below said came slots opened =
       All-weaker (IsOpen said came) (λ x. x.number < length came) (λ x o. get_below came x.number o.from o.came_is) slots opened
@@ -261,12 +289,13 @@ module _ {S : Type 0} (acting : Acting S) (served : Served) (idle : ℕ) (before
     by (inr is) = inr (ap suc is)
 
   pub begins : (came : List Ends) (ended : List (ℕ × Gone)) (w w' : World S Stream) (slots : List Slotted) (c : ℕ) (told : Ends)
-      (quiet : ℕ) (a : List ℕ) (g : IsGoing acting served idle before came ended w slots) → c ≡ length came → Opens rests w c a w'
-      → (after : IsGoing acting served idle before (came ++ told ∷ []) ended w' (slots ++ slotted c told quiet [] ∷ [])) × (brought c after.said ≡ [])
-  begins came ended w w' slots c told quiet a g number opens =
+      (trace : Option Trace) (a : List ℕ) (g : IsGoing acting served idle before came ended w slots) → c ≡ length came → Opens rests w c a w'
+      → (after : IsGoing acting served idle before (came ++ told ∷ []) ended w' (slots ++ slotted c told trace unwaited [] ∷ []))
+      × (brought c after.said ≡ []) × (after.said ≡ g.said ++ (Begins c, a) ∷ [])
+  begins came ended w w' slots c told trace a g number opens =
       let said : Log = g.said ++ (Begins c, a) ∷ [] in
       let came' : List Ends = came ++ told ∷ [] in
-      let s : Slotted = slotted c told quiet [] in
+      let s : Slotted = slotted c told trace unwaited [] in
       let below = all_below g.said came slots g.opened in
       let low : (n : ℕ) → n < length came → c ≢ n = λ n lt is. omega (arith, lt, number, is) in
       let none : brought c said ≡ [] =
@@ -311,126 +340,143 @@ module _ {S : Type 0} (acting : Acting S) (served : Served) (idle : ℕ) (before
           all = λ d lt. with_one d (came_before came told d lt);
         },
         none,
+        refl,
       )
     where
       either : (d : ℕ) → Contains (numbers slots) d ⊎ Contains (keys ended) d
-          → Contains (numbers (slots ++ slotted c told quiet [] ∷ [])) d ⊎ Contains (keys ended) d
+          → Contains (numbers (slots ++ slotted c told trace unwaited [] ∷ [])) d ⊎ Contains (keys ended) d
       either d (inl there) =
-          inl (subst (λ (ns : List ℕ). Contains ns d) (sym (map_two (λ (x : Slotted). x.number) slots (slotted c told quiet [] ∷ [])))
+          inl (subst (λ (ns : List ℕ). Contains ns d) (sym (map_two (λ (x : Slotted). x.number) slots (slotted c told trace unwaited [] ∷ [])))
           (Contains-append_left (numbers slots) (c ∷ []) d there))
       either d (inr there) = inr there
 
       with_one : (d : ℕ) → (d < length came) ⊎ (d ≡ length came)
-          → Contains (numbers (slots ++ slotted c told quiet [] ∷ [])) d ⊎ Contains (keys ended) d
+          → Contains (numbers (slots ++ slotted c told trace unwaited [] ∷ [])) d ⊎ Contains (keys ended) d
       with_one d (inl lt) = either d (g.all d lt)
       with_one d (inr is) =
-          inl (subst (λ (ns : List ℕ). Contains ns d) (sym (map_two (λ (x : Slotted). x.number) slots (slotted c told quiet [] ∷ [])))
+          inl (subst (λ (ns : List ℕ). Contains ns d) (sym (map_two (λ (x : Slotted). x.number) slots (slotted c told trace unwaited [] ∷ [])))
           (subst (λ (n : ℕ). Contains (numbers slots ++ c ∷ []) n) (number ∙ sym is) (Contains-push (numbers slots) c)))
 
   -- one that came and whose begin wanted memory
   pub not_begun : (came : List Ends) (ended : List (ℕ × Gone)) (w : World S Stream) (slots : List Slotted) (c : ℕ) (told : Ends)
-      (quiet : ℕ) (g : IsGoing acting served idle before came ended w slots) → c ≡ length came
-      → IsGoing acting served idle before (came ++ told ∷ []) (ended ++ (c, gone told quiet GivenUp) ∷ []) w slots
-  not_begun came ended w slots c told quiet g number =
+      (trace : Option Trace) (looks : ℕ) (g : IsGoing acting served idle before came ended w slots) → c ≡ length came → IsNew looks trace
+      → (after : IsGoing acting served idle before (came ++ told ∷ []) (ended ++ (c, gone told trace looks GivenUp) ∷ []) w slots) × (after.said ≡ g.said)
+  not_begun came ended w slots c told trace looks g number new =
       let came' : List Ends = came ++ told ∷ [] in
       let below = all_below g.said came slots g.opened in
       let none = brought_none (length came) c g.said (omega (arith, number)) g.known in
-      record {
-        said = g.said;
-        follows = g.follows;
-        there = g.there;
-        rising = g.rising;
-        known = All-weaker (λ one. connection_of one.0 < length came) (λ one. connection_of one.0 < length came')
-            (λ one lt. longer came told (connection_of one.0) lt) g.said g.known;
-        opened = All-weaker (IsOpen g.said came) (IsOpen g.said came') (λ x o. open_more g.said came told x o) slots g.opened;
-        gone = All-push (IsGone acting served idle before g.said came' slots) ended (c, gone told quiet GivenUp)
-            (All-weaker (IsGone acting served idle before g.said came slots) (IsGone acting served idle before g.said came' slots)
-            (λ one o. record {
-              from = o.from;
-              came_is = get_more came one.0 o.from told o.came_is;
-              carried = o.carried;
-              apart = o.apart;
-            })
-            ended g.gone)
-            (record {
-              from = told;
-              came_is = subst (λ (n : ℕ). slice_get came' n ≡ Some told) (sym number) (get_last came told);
-              carried = record {
-                sent = [];
-                waiting = [];
-                last = [];
-                answer_is = answered_none (length came) c g.said (omega (arith, number)) g.known;
-                read = subst (λ (o : List ℕ). Gives told.left o told.left) (sym none) (gives_start told.left);
-                wrote = adds_nothing told.written;
-                last_is = refl;
-                ended = record { sent = refl; wanted = inr none };
-              };
-              apart = All-weaker (λ x. x.number < length came) (λ x. x.number ≢ c) (λ x lt is. omega (arith, lt, is, number)) slots below;
-            });
-        all = λ d lt. with_one d (came_before came told d lt);
-      }
+      let unheard = hearings_none (length came) c g.said (omega (arith, number)) g.known in (
+        record {
+          said = g.said;
+          follows = g.follows;
+          there = g.there;
+          rising = g.rising;
+          known = All-weaker (λ one. connection_of one.0 < length came) (λ one. connection_of one.0 < length came')
+              (λ one lt. longer came told (connection_of one.0) lt) g.said g.known;
+          opened = All-weaker (IsOpen g.said came) (IsOpen g.said came') (λ x o. open_more g.said came told x o) slots g.opened;
+          gone = All-push (IsGone acting served idle before g.said came' slots) ended (c, gone told trace looks GivenUp)
+              (All-weaker (IsGone acting served idle before g.said came slots) (IsGone acting served idle before g.said came' slots)
+              (λ one o. record {
+                from = o.from;
+                came_is = get_more came one.0 o.from told o.came_is;
+                carried = o.carried;
+                apart = o.apart;
+              })
+              ended g.gone)
+              (record {
+                from = told;
+                came_is = subst (λ (n : ℕ). slice_get came' n ≡ Some told) (sym number) (get_last came told);
+                carried = record {
+                  sent = [];
+                  waiting = [];
+                  last = [];
+                  answer_is = answered_none (length came) c g.said (omega (arith, number)) g.known;
+                  read = subst (λ (o : List ℕ). Gives told.left o told.left) (sym none) (gives_start told.left);
+                  wrote = adds_nothing told.written;
+                  last_is = refl;
+                  ended = record { sent = refl; wanted = inr none };
+                  asked = λ some. asked_new looks trace new;
+                  timed = λ some. timed_never idle g.said c looks trace unheard new;
+                };
+                apart = All-weaker (λ x. x.number < length came) (λ x. x.number ≢ c) (λ x lt is. omega (arith, lt, is, number)) slots below;
+              });
+          all = λ d lt. with_one d (came_before came told d lt);
+        },
+        refl,
+      )
     where
-      keys_more : (d : ℕ) → Contains (keys ended ++ c ∷ []) d → Contains (keys (ended ++ (c, gone told quiet GivenUp) ∷ [])) d
-      keys_more d there = subst (λ (ns : List ℕ). Contains ns d) (sym (map_two (λ (x : ℕ × Gone). x.0) ended ((c, gone told quiet GivenUp) ∷ []))) there
+      keys_more : (d : ℕ) → Contains (keys ended ++ c ∷ []) d → Contains (keys (ended ++ (c, gone told trace looks GivenUp) ∷ [])) d
+      keys_more d there = subst (λ (ns : List ℕ). Contains ns d) (sym (map_two (λ (x : ℕ × Gone). x.0) ended ((c, gone told trace looks GivenUp) ∷ []))) there
 
       either : (d : ℕ) → Contains (numbers slots) d ⊎ Contains (keys ended) d
-          → Contains (numbers slots) d ⊎ Contains (keys (ended ++ (c, gone told quiet GivenUp) ∷ [])) d
+          → Contains (numbers slots) d ⊎ Contains (keys (ended ++ (c, gone told trace looks GivenUp) ∷ [])) d
       either d (inl there) = inl there
       either d (inr there) = inr (keys_more d (Contains-append_left (keys ended) (c ∷ []) d there))
 
       with_one : (d : ℕ) → (d < length came) ⊎ (d ≡ length came)
-          → Contains (numbers slots) d ⊎ Contains (keys (ended ++ (c, gone told quiet GivenUp) ∷ [])) d
+          → Contains (numbers slots) d ⊎ Contains (keys (ended ++ (c, gone told trace looks GivenUp) ∷ [])) d
       with_one d (inl lt) = either d (g.all d lt)
       with_one d (inr is) =
           inr (keys_more d (subst (λ (n : ℕ). Contains (keys ended ++ c ∷ []) n) (number ∙ sym is) (Contains-push (keys ended) c)))
 
-  plain : (said : Log) (c : ℕ) (from : Ends) (sent : List ℕ) (s : Slotted) (end : End)
+  plain : (said : Log) (c : ℕ) (from : Ends) (sent : List ℕ) (s : Slotted) (end : End) (to : Gone)
       → answered c said ≡ sent ++ s.waiting → Gives from.left (brought c said) s.told.left
       → Adds from.written sent s.told.written
-      → HasEnded acting served idle before said c s.waiting s.told s.quiet end
-      → IsLast end s.waiting [] → IsCarried acting served idle before said c from (gone s.told s.quiet end)
-  plain said c from sent s end answer read wrote ended last_is = record {
+      → HasEnded acting served idle before said c s.waiting s.told end
+      → IsLast end s.waiting [] → to.told ≡ s.told → to.end ≡ end
+      → (0 < idle → IsAsked to.looks to.trace) → (0 < idle → IsTimed idle said c to.trace end)
+      → IsCarried acting served idle before said c from to
+  plain said c from sent s end to answer read wrote ended last_is told_is end_is asked timed = record {
     sent = sent;
     waiting = s.waiting;
     last = [];
     answer_is = answer;
-    read = read;
-    wrote = subst (λ (xs : List ℕ). Adds from.written xs s.told.written) (sym (append-nil sent)) wrote;
-    last_is = last_is;
-    ended = ended;
+    read = subst (λ (e : Ends). Gives from.left (brought c said) e.left) (sym told_is) read;
+    wrote = subst (λ (e : Ends). Adds from.written (sent ++ []) e.written) (sym told_is)
+        (subst (λ (xs : List ℕ). Adds from.written xs s.told.written) (sym (append-nil sent)) wrote);
+    last_is = subst (λ (e : End). IsLast e s.waiting []) (sym end_is) last_is;
+    ended = subst (λ (e : End). HasEnded acting served idle before said c s.waiting to.told e) (sym end_is)
+        (subst (λ (e : Ends). HasEnded acting served idle before said c s.waiting e end) (sym told_is) ended);
+    asked = asked;
+    timed = λ some. subst (λ (e : End). IsTimed idle said c to.trace e) (sym end_is) (timed some);
   }
 
   -- what is known of one that is let go of, by how it ended
   let_go : (said : Log) (c : ℕ) (from : Ends) (sent : List ℕ) (s : Slotted) (end : End) (to : Gone)
       → answered c said ≡ sent ++ s.waiting → Gives from.left (brought c said) s.told.left
       → Adds from.written sent s.told.written
-      → HasEnded acting served idle before said c s.waiting s.told s.quiet end
-      → IsLetGo s end to → IsCarried acting served idle before said c from to
-  let_go said c from sent s Finished to answer read wrote ended is =
-      subst (λ (t : Gone). IsCarried acting served idle before said c from t) (sym is) (plain said c from sent s Finished answer read wrote ended refl)
-  let_go said c from sent s Failed to answer read wrote ended is =
-      subst (λ (t : Gone). IsCarried acting served idle before said c from t) (sym is) (plain said c from sent s Failed answer read wrote ended refl)
-  let_go said c from sent s GivenUp to answer read wrote ended is =
-      subst (λ (t : Gone). IsCarried acting served idle before said c from t) (sym is) (plain said c from sent s GivenUp answer read wrote ended refl)
-  let_go said c from sent s Idle to answer read wrote ended is = record {
+      → HasEnded acting served idle before said c s.waiting s.told end
+      → IsLetGo s end to.told to.trace → to.end ≡ end
+      → (0 < idle → IsAsked to.looks to.trace) → (0 < idle → IsTimed idle said c to.trace end)
+      → IsCarried acting served idle before said c from to
+  let_go said c from sent s Finished to answer read wrote ended is end_is asked timed =
+      plain said c from sent s Finished to answer read wrote ended refl is.0 end_is asked timed
+  let_go said c from sent s Failed to answer read wrote ended is end_is asked timed =
+      plain said c from sent s Failed to answer read wrote ended refl is.0 end_is asked timed
+  let_go said c from sent s GivenUp to answer read wrote ended is end_is asked timed =
+      plain said c from sent s GivenUp to answer read wrote ended refl is.0 end_is asked timed
+  let_go said c from sent s (Late limit) to answer read wrote ended is end_is asked timed = record {
     sent = sent;
     waiting = s.waiting;
     last = is.last;
     answer_is = answer;
     read = subst (λ l. Gives from.left (brought c said) l) (sym is.left) read;
     wrote = adds_then from.written s.told.written to.told.written sent is.last wrote is.written;
-    last_is = subst (λ (e : End). IsLast e s.waiting is.last) (sym is.end_is) is.last_is;
-    ended = subst (λ (e : End). HasEnded acting served idle before said c s.waiting to.told to.quiet e) (sym is.end_is)
-        (subst (λ (q : ℕ). IsIdle idle q) (sym is.quiet) ended);
+    last_is = subst (λ (e : End). IsLast e s.waiting is.last) (sym end_is) is.last_is;
+    ended = subst (λ (e : End). HasEnded acting served idle before said c s.waiting to.told e) (sym end_is) ended;
+    asked = asked;
+    timed = λ some. subst (λ (e : End). IsTimed idle said c to.trace e) (sym end_is) (timed some);
   }
 
   -- ---- one less
 
   pub leaves : (came : List Ends) (ended : List (ℕ × Gone)) (w w' : World S Stream) (front : List Slotted) (s : Slotted)
-      (back : List Slotted) (a : List ℕ) (end : End) (to : Gone)
-      (on : IsOn acting served idle before came ended w front s back (Over end)) → Leaves w s.number a w' → IsLetGo s end to
-      → IsGoing acting served idle before came (ended ++ (s.number, to) ∷ []) w' (front ++ back)
-  leaves came ended w w' front s back a end to on left parted =
+      (back : List Slotted) (a : List ℕ) (end : End) (looks : ℕ) (to : Gone)
+      (on : IsOn acting served idle before came ended w true front s back (Over end)) → Leaves w s.number a w' → IsHandedBack s end looks to
+      → (0 < idle → IsAsked looks s.trace)
+      → (after : IsGoing acting served idle before came (ended ++ (s.number, to) ∷ []) w' (front ++ back))
+      × (after.said ≡ on.going.said ++ (Leaving s.number, a) ∷ [])
+  leaves came ended w w' front s back a end looks to on left parted was_asked =
       let g = on.going in
       let c : ℕ = s.number in
       let said : Log = g.said ++ (Leaving c, a) ∷ [] in
@@ -445,41 +491,46 @@ module _ {S : Type 0} (acting : Acting S) (served : Served) (idle : ℕ) (before
       let nothing : brought c said ≡ brought c g.said = brought_own c g.said (Leaving c) a refl ∙ append-nil (brought c g.said) in
       let silent : answered c said ≡ answered c g.said =
       answered_own c g.said (Leaving c) a refl ∙ ap (λ (xs : List ℕ). answered c g.said ++ xs) left.silent ∙ append-nil (answered c g.said) in
-      let o = parts.1 in
-      record {
-        said = said;
-        follows = follows_more rests (Serves acting served) (Moves acting served) (world before []) g.said w (Leaving c) a w' g.follows left;
-        there = ap (λ (x : World S Stream). keys x.there) left.now
-            ∙ keys_without c w.there (numbers front) (numbers back) (g.there ∙ ns) apart.0
-            ∙ sym (map_two (λ (x : Slotted). x.number) front back);
-        rising = subst (IsRising 0) (sym (map_two (λ (x : Slotted). x.number) front back))
-            (rising_without 0 (numbers front) c (numbers back) rising);
-        known = known_with came ended w (front ++ s ∷ back) g (Leaving c) a (get_below came c o.from o.came_is);
-        opened = all_two (IsOpen said came) front back
-            (all_both (IsOpen g.said came) (λ x. x.number ≢ c) (IsOpen said came) front still parts.0 apart_front)
-            (all_both (IsOpen g.said came) (λ x. x.number ≢ c) (IsOpen said came) back still parts.2 apart_back);
-        gone = All-push (IsGone acting served idle before said came (front ++ back)) ended (c, to)
-            (All-weaker (IsGone acting served idle before g.said came (front ++ s ∷ back)) (IsGone acting served idle before said came (front ++ back))
-            (λ one k.
-            let others = all_parts (λ slot. slot.number ≢ one.0) front s back k.apart in
-            record {
-              from = k.from;
-              came_is = k.came_is;
-              carried = carried_still g.said (Leaving c) a one.0 k.from one.1 others.1 k.carried;
-              apart = all_two (λ slot. slot.number ≢ one.0) front back others.0 others.2;
-            })
-            ended g.gone)
-            (record {
-              from = o.from;
-              came_is = o.came_is;
-              carried = let_go said c o.from o.sent s end to
-                  (silent ∙ o.answer_is)
-                  (subst (λ (x : List ℕ). Gives o.from.left x s.told.left) (sym nothing) o.read) o.wrote
-                  (ended_still g.said ((Leaving c, a) ∷ []) c s.waiting s.told s.quiet end nothing (on.over end refl)) parted;
-              apart = all_two (λ slot. slot.number ≢ c) front back apart_front apart_back;
-            });
-        all = λ d lt. either d (g.all d lt);
-      }
+      let unheard : hearings c said ≡ hearings c g.said = hearings_same c g.said (Leaving c) a refl in
+      let o = parts.1 in (
+        record {
+          said = said;
+          follows = follows_more rests (Serves acting served) (Moves acting served) (world before []) g.said w (Leaving c) a w' g.follows left;
+          there = ap (λ (x : World S Stream). keys x.there) left.now
+              ∙ keys_without c w.there (numbers front) (numbers back) (g.there ∙ ns) apart.0
+              ∙ sym (map_two (λ (x : Slotted). x.number) front back);
+          rising = subst (IsRising 0) (sym (map_two (λ (x : Slotted). x.number) front back))
+              (rising_without 0 (numbers front) c (numbers back) rising);
+          known = known_with came ended w (front ++ s ∷ back) g (Leaving c) a (get_below came c o.from o.came_is);
+          opened = all_two (IsOpen said came) front back
+              (all_both (IsOpen g.said came) (λ x. x.number ≢ c) (IsOpen said came) front still parts.0 apart_front)
+              (all_both (IsOpen g.said came) (λ x. x.number ≢ c) (IsOpen said came) back still parts.2 apart_back);
+          gone = All-push (IsGone acting served idle before said came (front ++ back)) ended (c, to)
+              (All-weaker (IsGone acting served idle before g.said came (front ++ s ∷ back)) (IsGone acting served idle before said came (front ++ back))
+              (λ one k.
+              let others = all_parts (λ slot. slot.number ≢ one.0) front s back k.apart in
+              record {
+                from = k.from;
+                came_is = k.came_is;
+                carried = carried_still g.said (Leaving c) a one.0 k.from one.1 others.1 k.carried;
+                apart = all_two (λ slot. slot.number ≢ one.0) front back others.0 others.2;
+              })
+              ended g.gone)
+              (record {
+                from = o.from;
+                came_is = o.came_is;
+                carried = let_go said c o.from o.sent s end to
+                    (silent ∙ o.answer_is)
+                    (subst (λ (x : List ℕ). Gives o.from.left x s.told.left) (sym nothing) o.read) o.wrote
+                    (ended_still g.said ((Leaving c, a) ∷ []) c s.waiting s.told end nothing (on.over end refl)) parted.let_go parted.end_is
+                    (λ some. subst (λ (n : ℕ). IsAsked n to.trace) (sym parted.looks_are) (let_go_asked looks s end to.told to.trace parted.let_go (was_asked some)))
+                    (λ some. let_go_timed idle g.said said s end to.told to.trace unheard parted.let_go (on.own some));
+                apart = all_two (λ slot. slot.number ≢ c) front back apart_front apart_back;
+              });
+          all = λ d lt. either d (g.all d lt);
+        },
+        refl,
+      )
     where
       all_two : {A : Type 0} (P : A → Type 0) (xs ys : List A) → All P xs → All P ys → All P (xs ++ ys)
       all_two P [] ys p q = q

@@ -1,5 +1,5 @@
 -- The numbers of connections that are kept.
-use Rattle.std.proofs.Common.{◌≡◌, ◌≢◌, ℕ, zero, suc, Bool, true, false, cond, nat_eq, List, [], ◌∷◌, ◌++◌, Some, None, length, refl, sym, ap, subst, ◌∙◌, arith}
+use Rattle.std.proofs.Common.{◌≡◌, ◌≢◌, ℕ, zero, suc, Bool, true, false, cond, nat_eq, List, [], ◌∷◌, ◌++◌, Option, Some, None, length, refl, sym, ap, subst, ◌∙◌, arith}
 use Rattle.std.specs.List.{All, Contains}
 use Rattle.std.proofs.lemmas.Bool.{eq-eqb, eqb-true}
 use Rattle.std.proofs.lemmas.List.Elements.{All-head, All-tail}
@@ -92,3 +92,42 @@ no_keys (one ∷ more) e = nil_cons one.0 (keys more) (sym e)
 pub no_items : {A : Type 0} (items : List A) → length items ≡ 0 → items ≡ []
 no_items [] e = refl
 no_items (x ∷ xs) e = absurd (omega (arith, e))
+
+-- ---- what is kept of the others
+
+pub at_put : {C : Type 0} (c : ℕ) (was kept : C) (there : List (ℕ × C)) → at c there ≡ Some was → at c (put c kept there) ≡ Some kept
+at_put c was kept [] e = none_some was e
+at_put {C} c was kept (one ∷ more) e = by (nat_eq c one.0) refl (at_put c was kept more) where
+  by : (b : Bool) → nat_eq c one.0 ≡ b → (at c more ≡ Some was → at c (put c kept more) ≡ Some kept)
+      → at c (cond b ((c, kept) ∷ more) (one ∷ put c kept more)) ≡ Some kept
+  by true is further = ap (λ (b : Bool). cond b (Some kept) (at c more)) (eq-eqb c c refl)
+  by false is further =
+      ap (λ (b : Bool). cond b (Some one.1) (at c (put c kept more))) is
+      ∙ further (sym (ap (λ (b : Bool). cond b (Some one.1) (at c more)) is) ∙ e)
+
+pub at_put_other : {C : Type 0} (c d : ℕ) (kept : C) (there : List (ℕ × C)) → c ≢ d → at c (put d kept there) ≡ at c there
+at_put_other c d kept [] differs = refl
+at_put_other {C} c d kept (one ∷ more) differs = by (nat_eq d one.0) refl (at_put_other c d kept more differs) where
+  by : (b : Bool) → nat_eq d one.0 ≡ b → at c (put d kept more) ≡ at c more
+      → at c (cond b ((d, kept) ∷ more) (one ∷ put d kept more)) ≡ at c (one ∷ more)
+  by true is e =
+      ap (λ (b : Bool). cond b (Some kept) (at c more)) (unequal c d (nat_eq c d) refl (λ same. differs (sym same)))
+      ∙ sym (ap (λ (b : Bool). cond b (Some one.1) (at c more))
+      (unequal c one.0 (nat_eq c one.0) refl (λ same. differs (sym same ∙ sym (eqb-true d one.0 is)))))
+  by false is e = ap (λ (k : Option C). cond (nat_eq c one.0) (Some one.1) k) e
+
+pub at_without_other : {C : Type 0} (c d : ℕ) (there : List (ℕ × C)) → c ≢ d → at c (without d there) ≡ at c there
+at_without_other c d [] differs = refl
+at_without_other {C} c d (one ∷ more) differs = by (nat_eq d one.0) refl (at_without_other c d more differs) where
+  by : (b : Bool) → nat_eq d one.0 ≡ b → at c (without d more) ≡ at c more
+      → at c (cond b more (one ∷ without d more)) ≡ at c (one ∷ more)
+  by true is e =
+      sym (ap (λ (b : Bool). cond b (Some one.1) (at c more))
+      (unequal c one.0 (nat_eq c one.0) refl (λ same. differs (sym same ∙ sym (eqb-true d one.0 is)))))
+  by false is e = ap (λ (k : Option C). cond (nat_eq c one.0) (Some one.1) k) e
+
+pub at_more_other : {C : Type 0} (c d : ℕ) (kept : C) (there : List (ℕ × C)) → c ≢ d → at c (there ++ (d, kept) ∷ []) ≡ at c there
+at_more_other c d kept [] differs =
+    ap (λ (b : Bool). cond b (Some kept) None) (unequal c d (nat_eq c d) refl (λ same. differs (sym same)))
+at_more_other {C} c d kept (one ∷ more) differs =
+    ap (λ (k : Option C). cond (nat_eq c one.0) (Some one.1) k) (at_more_other c d kept more differs)

@@ -3,6 +3,8 @@ pub mod Items
 pub mod Logs
 pub mod OneTalk
 pub mod Keys
+pub mod Times
 pub mod Going
+pub mod InTime
 pub mod Turns
 pub mod Visits

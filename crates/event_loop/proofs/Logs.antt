@@ -4,8 +4,8 @@ use Rattle.std.specs.List.{All}
 use Rattle.std.proofs.lemmas.Bool.{eq-eqb, eqb-true}
 use Rattle.std.proofs.lemmas.List.{flat_map_more}
 use Rattle.std.proofs.lemmas.List.Elements.{All-head, All-tail}
-use Rattle.broker_answers.specs.Talk.{Event, Keeping, Serving, Moving, World, Happens, Follows}
-use Rattle.event_loop.specs.Carried.{Log, connection_of, octets_of, if_of, brought, answered}
+use Rattle.broker_answers.specs.Talk.{Event, Begins, Brings, GivesUp, Ends, Keeping, Serving, Moving, World, Happens, Follows}
+use Rattle.event_loop.specs.Carried.{Log, connection_of, octets_of, if_of, brought, answered, hearing_of, hearings}
 
 pub own_part : (c : ℕ) (e : Event) (xs : List ℕ) → connection_of e ≡ c → if_of c e xs ≡ xs
 own_part c e xs is = ap (λ (b : Bool). cond b xs []) (eq-eqb c (connection_of e) (sym is))
@@ -42,6 +42,31 @@ pub answered_other : (c : ℕ) (said : Log) (e : Event) (a : List ℕ) → conne
 answered_other c said e a differs =
     answered_more c said e a ∙ ap (λ (xs : List ℕ). answered c said ++ xs) (other_part c e a differs) ∙ append-nil (answered c said)
 
+-- ---- what came on a connection, piece by piece
+
+pub other_hearing : (c : ℕ) (e : Event) (a : List ℕ) → connection_of e ≢ c → hearing_of c e a ≡ []
+other_hearing c (Begins d) a differs = refl
+other_hearing c (Brings d octets) a differs =
+    ap (λ (b : Bool). cond b ((octets, a) ∷ []) []) (not_equal c d (nat_eq c d) refl (λ is. differs (sym is)))
+other_hearing c (GivesUp d octets j) a differs = refl
+other_hearing c (Ends d) a differs = refl
+
+hearings_more : (c : ℕ) (said : Log) (e : Event) (a : List ℕ) → hearings c (said ++ (e, a) ∷ []) ≡ hearings c said ++ hearing_of c e a
+hearings_more c said e a = sym (flat_map_more (λ (one : Event × List ℕ). hearing_of c one.0 one.1) [] said (e, a))
+
+-- an event that brings the connection nothing
+pub hearings_same : (c : ℕ) (said : Log) (e : Event) (a : List ℕ) → hearing_of c e a ≡ [] → hearings c (said ++ (e, a) ∷ []) ≡ hearings c said
+hearings_same c said e a none =
+    hearings_more c said e a ∙ ap (λ (xs : List (List ℕ × List ℕ)). hearings c said ++ xs) none ∙ append-nil (hearings c said)
+
+pub hearings_other : (c : ℕ) (said : Log) (e : Event) (a : List ℕ) → connection_of e ≢ c → hearings c (said ++ (e, a) ∷ []) ≡ hearings c said
+hearings_other c said e a differs = hearings_same c said e a (other_hearing c e a differs)
+
+pub hearings_own : (c : ℕ) (said : Log) (octets a : List ℕ) → hearings c (said ++ (Brings c octets, a) ∷ []) ≡ hearings c said ++ (octets, a) ∷ []
+hearings_own c said octets a =
+    hearings_more c said (Brings c octets) a
+    ∙ ap (λ (b : Bool). hearings c said ++ cond b ((octets, a) ∷ []) []) (eq-eqb c c refl)
+
 above : (n c d : ℕ) → n ≤ c → d < n → d ≢ c
 above n c d le lt e = omega (arith, le, lt, e)
 
@@ -59,6 +84,13 @@ answered_none n c (one ∷ more) le known =
     let differs = above n c (connection_of one.0) le (All-head (λ (x : Event × List ℕ). connection_of x.0 < n) one more known) in
     ap (λ (xs : List ℕ). xs ++ answered c more) (other_part c one.0 one.1 differs)
     ∙ answered_none n c more le (All-tail (λ (x : Event × List ℕ). connection_of x.0 < n) one more known)
+
+pub hearings_none : (n c : ℕ) (said : Log) → n ≤ c → All (λ one. connection_of one.0 < n) said → hearings c said ≡ []
+hearings_none n c [] le known = refl
+hearings_none n c (one ∷ more) le known =
+    let differs = above n c (connection_of one.0) le (All-head (λ (x : Event × List ℕ). connection_of x.0 < n) one more known) in
+    ap (λ (xs : List (List ℕ × List ℕ)). xs ++ hearings c more) (other_hearing c one.0 one.1 differs)
+    ∙ hearings_none n c more le (All-tail (λ (x : Event × List ℕ). connection_of x.0 < n) one more known)
 
 pub follows_more : {S C : Type 0} (keeping : Keeping C) (Serves : Serving S) (Moves : Moving S) (w : World S C) (said : Log)
     (now : World S C) (e : Event) (a : List ℕ) (then : World S C) → Follows keeping Serves Moves w said now

@@ -1,5 +1,6 @@
 pub mod Carried
 pub mod OneTalk
 pub mod Telling
+pub mod Limits
 pub mod Visits
 pub mod inner

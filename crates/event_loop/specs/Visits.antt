@@ -1,5 +1,5 @@
 -- Connections that came, were served at the same time, and went.
-use Rattle.std.specs.Prelude.{◌≡◌, ◌⊎◌, ℕ, ◌<◌, ◌≤◌, Bool, true, List, [], ◌∷◌, ◌++◌, length, Some, slice_get}
+use Rattle.std.specs.Prelude.{◌≡◌, ◌⊎◌, ℕ, ◌<◌, Bool, true, List, [], ◌∷◌, ◌++◌, length, Option, Some, slice_get}
 use Rattle.broker_answers.specs.Streams.{Stream, Closed}
 use Rattle.broker_answers.specs.Connections.{at}
 use Rattle.broker_answers.specs.Talk.{World, world, rests, Follows, Talk, GivesUp}
@@ -10,8 +10,10 @@ use Rattle.giop_messages.specs.Messages.{Closes, Says}
 use Rattle.iiop_broker.specs.Ends.{Adds, Gives, IsEmpty}
 use Rattle.iiop_broker.specs.Outcomes.{Ends}
 use Rattle.event_loop.specs.declared.listener.End.{End}
-use Rattle.event_loop.specs.declared.listener.End.TheVariants.{Finished, Failed, GivenUp, Idle}
+use Rattle.event_loop.specs.declared.listener.End.TheVariants.{Finished, Failed, GivenUp, Late}
 use Rattle.event_loop.specs.Carried.{Log, answered, brought}
+use Rattle.event_loop.specs.Limits.{IsTimed}
+use Rattle.event_loop.specs.Telling.{IsAsked, Trace}
 
 -- at some time of the log the broker had closed the connection
 pub record IsShut {S : Type 0} (acting : Acting S) (served : Served) (before : S) (said : Log) (c : ℕ) : Type 0 where
@@ -41,19 +43,13 @@ pub record IsForsaken (said : Log) (c : ℕ) (waiting : List ℕ) : Type 0 where
   pub sent : waiting ≡ []
   pub wanted : IsGivenUp said c ⊎ (brought c said ≡ [])
 
--- connections are to end after so many milliseconds, and no octets had moved on this one for as many
-pub record IsIdle (idle quiet : ℕ) : Type 0 where
-  pub wanted : 0 < idle
-  pub long : idle ≤ quiet
-
--- How a connection ended, of whose answers these aren't written.
-abbrev pub HasEnded : {S : Type 0} → Acting S → Served → ℕ → S → Log → ℕ → List ℕ → Ends → ℕ → End → Type 0
-HasEnded acting served idle before said c waiting to quiet Finished =
-    IsFinished acting served before said c waiting to
-HasEnded acting served idle before said c waiting to quiet Failed =
+-- How a connection ended, of whose answers these aren't written. None passes a limit of 0.
+abbrev pub HasEnded : {S : Type 0} → Acting S → Served → ℕ → S → Log → ℕ → List ℕ → Ends → End → Type 0
+HasEnded acting served idle before said c waiting to Finished = IsFinished acting served before said c waiting to
+HasEnded acting served idle before said c waiting to Failed =
     (to.unwritten ≡ true) ⊎ ((waiting ≡ []) × (to.unread ≡ true))
-HasEnded acting served idle before said c waiting to quiet GivenUp = IsForsaken said c waiting
-HasEnded acting served idle before said c waiting to quiet Idle = IsIdle idle quiet
+HasEnded acting served idle before said c waiting to GivenUp = IsForsaken said c waiting
+HasEnded acting served idle before said c waiting to (Late limit) = 0 < idle
 
 -- a front of the message that no more is heard (GIOP: CloseConnection)
 pub record IsFarewell (octets : List ℕ) : Type 0 where
@@ -62,9 +58,9 @@ pub record IsFarewell (octets : List ℕ) : Type 0 where
   pub says : Says message Closes
   pub split : message ≡ octets ++ rest
 
--- what is written behind the answers: such a front where it was idle and none waits, and else nothing
+-- what is written behind the answers: such a front where it passed a limit and none waits, and else nothing
 abbrev pub IsLast : End → List ℕ → List ℕ → Type 0
-IsLast Idle waiting last = (last ≡ []) ⊎ ((waiting ≡ []) × IsFarewell last)
+IsLast (Late limit) waiting last = (last ≡ []) ⊎ ((waiting ≡ []) × IsFarewell last)
 IsLast end waiting last = last ≡ []
 
 -- it is shut where no call on it failed
@@ -72,18 +68,20 @@ abbrev pub IsShutAt : End → Bool → Type 0
 IsShutAt Failed shut = Unit {0}
 IsShutAt end shut = shut ≡ true
 
--- what a connection that was handed back told then, for how many milliseconds no octets had moved on it when it was
--- asked last, and how it ended
+-- what a connection that was handed back told then, what it had noted, how often the listener had looked, and how it
+-- ended
 pub record Gone : Type 0 where
   pub told : Ends
-  pub quiet : ℕ
+  pub trace : Option Trace
+  pub looks : ℕ
   pub end : End
 
-abbrev pub gone : Ends → ℕ → End → Gone
-gone told quiet end = record { told = told; quiet = quiet; end = end }
+abbrev pub gone : Ends → Option Trace → ℕ → End → Gone
+gone told trace looks end = record { told = told; trace = trace; looks = looks; end = end }
 
 -- A connection that told one thing when it came and another when it went: just the octets of its events were read, and
--- its answers are written, but for those that wait, and then what is last.
+-- its answers are written, but for those that wait, and then what is last. Unless the limits are 0, the time was told
+-- for it in each round, and it was let go of in that in which it had passed one.
 pub record IsCarried {S : Type 0} (acting : Acting S) (served : Served) (idle : ℕ) (before : S) (said : Log) (c : ℕ)
     (from : Ends) (to : Gone) : Type 0 where
   pub sent : List ℕ
@@ -93,7 +91,9 @@ pub record IsCarried {S : Type 0} (acting : Acting S) (served : Served) (idle : 
   pub read : Gives from.left (brought c said) to.told.left
   pub wrote : Adds from.written (sent ++ last) to.told.written
   pub last_is : IsLast to.end waiting last
-  pub ended : HasEnded acting served idle before said c waiting to.told to.quiet to.end
+  pub ended : HasEnded acting served idle before said c waiting to.told to.end
+  pub asked : 0 < idle → IsAsked to.looks to.trace
+  pub timed : 0 < idle → IsTimed idle said c to.trace to.end
 
 -- the connection that came as this number among all, and what it told when it was handed back
 pub record IsVisit {S : Type 0} (acting : Acting S) (served : Served) (idle : ℕ) (before : S) (said : Log)

@@ -1,19 +1,19 @@
 //! Connections on which no call waits.
 
-ghost use Rattle.std.specs.Prelude.{◌≡◌, ◌<◌, ◌≤◌, ℕ, Bool, true, IsTrue, length, take, IfNone, IfOk, IfSome, OnErr};
+ghost use Rattle.std.specs.Prelude.{◌≡◌, ◌<◌, ◌≤◌, Bool, Option, true, length, take, IfNone, IfOk, IfSome, OnErr};
 ghost use Rattle.iiop_broker.specs.Ends.{IsEmpty};
 ghost use Rattle.iiop_broker.specs.Outcomes.{Ends};
-ghost use Rattle.event_loop.specs.Telling.{HasRead, HasWritten, with_failed_read, with_failed_write};
+ghost use Rattle.event_loop.specs.Telling.{Got, HasRead, HasWritten, Took, Trace, noted, with_failed_read, with_failed_write};
 
 use iiop_broker::Failed;
 
 /// A connection of which a call moves octets at once or says that it can't now. It tells the octets
 /// that are left and those that were written, or nothing of them, and whether a call has failed; and
-/// for how many milliseconds no octets had moved when that was asked last.
+/// what it noted: the octets that moved, and the times that its listener told, or nothing of these.
 pub trait Connection {
     ghost told: { Self → Ends };
 
-    ghost quiet: { Self → ℕ };
+    ghost trace: { Self → Option Trace };
 
     ghost shut: { Self → Bool };
 
@@ -27,11 +27,14 @@ pub trait Connection {
         ensures within { IfOk result (λ got. IfSome got (λ n. n ≤ length buffer.old)) }
         ensures given { IfOk result
             (λ got. IfSome got (λ n. HasRead (told self.old) (take n buffer.new) (told self.new))) }
+        ensures noted { IfOk result
+            (λ got. IfSome got (λ n. trace self.new ≡ noted (Got (take n buffer.new)) (trace self.old))) }
         ensures end { IfOk result (λ got. IfSome got (λ n. n ≡ 0 → 0 < length buffer.old
             → IsEmpty (told self.new).left)) }
         ensures not_now { IfOk result (λ got. IfNone got (told self.new ≡ told self.old)) }
+        ensures none_noted { IfOk result (λ got. IfNone got (trace self.new ≡ trace self.old)) }
         ensures failed { OnErr result (told self.new ≡ with_failed_read (told self.old)) }
-        ensures quiet { quiet self.new ≡ quiet self.old };
+        ensures unnoted { OnErr result (trace self.new ≡ trace self.old) };
 
     /// Writes octets, and tells how many it took. None where it takes none now. It fails too where
     /// it takes 0 of some.
@@ -42,18 +45,16 @@ pub trait Connection {
         ensures within { IfOk result (λ got. IfSome got (λ n. n ≤ length octets.now)) }
         ensures written { IfOk result
             (λ got. IfSome got (λ n. HasWritten (told self.old) octets.now n (told self.new))) }
+        ensures noted { IfOk result
+            (λ got. IfSome got (λ n. trace self.new ≡ noted (Took (take n octets.now)) (trace self.old))) }
         ensures not_now { IfOk result (λ got. IfNone got (told self.new ≡ told self.old)) }
+        ensures none_noted { IfOk result (λ got. IfNone got (trace self.new ≡ trace self.old)) }
         ensures failed { OnErr result (told self.new ≡ with_failed_write (told self.old)) }
-        ensures quiet { quiet self.new ≡ quiet self.old };
-
-    /// Whether no octets have moved for so many milliseconds, as far as it knows.
-    fn is_quiet(&mut self, least: u64) -> bool
-        ensures told { told self.new ≡ told self.old }
-        ensures quiet { IsTrue result → least ≤ quiet self.new };
+        ensures unnoted { OnErr result (trace self.new ≡ trace self.old) };
 
     /// Shuts the side that is written to, so that the peer sees the end behind what was written.
     fn shut(&mut self)
         ensures shut { shut self.new ≡ true }
         ensures told { told self.new ≡ told self.old }
-        ensures quiet { quiet self.new ≡ quiet self.old };
+        ensures unnoted { trace self.new ≡ trace self.old };
 }

@@ -3,6 +3,7 @@
 
 mod connection;
 pub mod laws;
+mod limits;
 mod listener;
 mod reading;
 mod serving;
@@ -10,5 +11,5 @@ mod slot;
 mod sweep;
 
 pub use connection::Connection;
-pub use listener::{End, Listener};
+pub use listener::{End, Limit, Listener};
 pub use serving::{Interruption, MAX_SWEEPS, serve_at_once};

@@ -2,10 +2,22 @@
 
 ghost use Rattle.std.specs.Prelude.{◌≡◌, ◌∷◌, ◌++◌, ◌+◌, ◌<◌, [], ℕ, Bool, true, List, Option, Some, max, IfNone, IfOk, IfSome, OnErr, OnOk};
 ghost use Rattle.iiop_broker.specs.Outcomes.{Ends};
+ghost use Rattle.event_loop.specs.Telling.{IsNew, Told, noted};
 ghost use Rattle.event_loop.specs.Visits.{Gone, IsShutAt, gone};
 
 use crate::connection::Connection;
 use iiop_broker::Failed;
+
+/// What lasts no longer on a connection than it was allowed.
+#[derive(Clone, Copy, Debug, PartialEq, Eq)]
+pub enum Limit {
+    /// That nothing moves while no message is begun and no answer waits.
+    Silence,
+    /// That a message is begun and isn't whole.
+    Message,
+    /// That an answer isn't taken.
+    Answer,
+}
 
 /// How a connection ended.
 #[derive(Clone, Copy, Debug, PartialEq, Eq)]
@@ -16,8 +28,8 @@ pub enum End {
     Failed,
     /// Memory was wanted for it.
     GivenUp,
-    /// No octets moved for so long that it was ended.
-    Idle,
+    /// It passed a limit.
+    Late(Limit),
 }
 
 /// Where connections come from, and to which they are handed back. It tells what each connection
@@ -56,7 +68,7 @@ pub trait Listener {
     /// The next connection, or None where none has come now.
     ///
     /// # Errors
-    /// No connection can come.
+    /// No connection can come, and none is there.
     fn accept(&mut self) -> Result<Option<Self::Connection>, Failed>
         ensures came { IfOk result
             (λ got. IfSome got (λ it. came self.new ≡ came self.old ++ Self.Connection.told it ∷ [])) }
@@ -65,12 +77,27 @@ pub trait Listener {
         ensures not_now { IfOk result (λ got. IfNone got (came self.new ≡ came self.old)) }
         ensures as_many { IfOk result (λ got. IfNone got (there self.new ≡ there self.old)) }
         ensures no_more { IfOk result (λ got. IfNone got (most self.new ≡ most self.old)) }
+        ensures new { IfOk result (λ got. IfSome got (λ it. IsNew (looks self.old) (Self.Connection.trace it))) }
         ensures kept { OnErr result (came self.new ≡ came self.old) }
         ensures still { OnErr result (most self.new ≡ most self.old) }
+        ensures alone { OnErr result (there self.old ≡ 0) }
+        ensures as_few { OnErr result (there self.new ≡ there self.old) }
         ensures failed { OnErr result (failure self.new ≡ true) }
         ensures port { port self.new ≡ port self.old }
         ensures looks { looks self.new ≡ looks self.old }
         ensures ended { (all : List (ℕ × Gone)) → ended self.old all → ended self.new all };
+
+    /// The time, in milliseconds. The connection notes it.
+    fn time(&mut self, connection: &mut Self::Connection) -> u64
+        ensures noted { Self.Connection.trace connection.new
+            ≡ noted (Told (looks self.old) result) (Self.Connection.trace connection.old) }
+        ensures told { Self.Connection.told connection.new ≡ Self.Connection.told connection.old }
+        ensures came { came self.new ≡ came self.old }
+        ensures ended { (all : List (ℕ × Gone)) → ended self.old all → ended self.new all }
+        ensures there { there self.new ≡ there self.old }
+        ensures most { most self.new ≡ most self.old }
+        ensures port { port self.new ≡ port self.old }
+        ensures looks { looks self.new ≡ looks self.old };
 
     /// Takes back a connection that ended: which it was among those that came, and how it ended. It
     /// is shut, unless a call on it failed; what still comes may be read, so that the last answer
@@ -81,7 +108,7 @@ pub trait Listener {
         ensures came { came self.new ≡ came self.old }
         ensures ended { (all : List (ℕ × Gone)) → ended self.old all
             → ended self.new (all
-            ++ (number, gone (Self.Connection.told connection) (Self.Connection.quiet connection) end) ∷ []) }
+            ++ (number, gone (Self.Connection.told connection) (Self.Connection.trace connection) (looks self.old) end) ∷ []) }
         ensures there { there self.new + 1 ≡ there self.old }
         ensures most { most self.new ≡ most self.old }
         ensures port { port self.new ≡ port self.old }

@@ -2,7 +2,7 @@
 
 ghost use Rattle.std.specs.Prelude.{◌≡◌, ◌<◌, ◌≤◌, length, take, IfNone, IfOk, IfSome, OnErr};
 ghost use Rattle.iiop_broker.specs.Ends.{IsEmpty};
-ghost use Rattle.event_loop.specs.Telling.{HasRead, with_failed_read};
+ghost use Rattle.event_loop.specs.Telling.{Got, HasRead, noted, with_failed_read};
 
 use crate::connection::Connection;
 use iiop_broker::Failed;
@@ -22,10 +22,13 @@ pub(crate) fn read_within<C: Connection>(
     ensures within { IfOk result (λ got. IfSome got (λ n. n ≤ length buffer.old)) }
     ensures given { IfOk result
         (λ got. IfSome got (λ n. HasRead (C.told connection.old) (take n buffer.new) (C.told connection.new))) }
+    ensures noted { IfOk result
+        (λ got. IfSome got (λ n. C.trace connection.new ≡ noted (Got (take n buffer.new)) (C.trace connection.old))) }
     ensures end { IfOk result (λ got. IfSome got (λ n. n ≡ 0 → IsEmpty (C.told connection.new).left)) }
     ensures not_now { IfOk result (λ got. IfNone got (C.told connection.new ≡ C.told connection.old)) }
+    ensures none_noted { IfOk result (λ got. IfNone got (C.trace connection.new ≡ C.trace connection.old)) }
     ensures failed { OnErr result (C.told connection.new ≡ with_failed_read (C.told connection.old)) }
-    ensures quiet { C.quiet connection.new ≡ C.quiet connection.old }
+    ensures unnoted { OnErr result (C.trace connection.new ≡ C.trace connection.old) }
 {
     let most = room.min(buffer.len());
     connection.read(&mut buffer[..most])

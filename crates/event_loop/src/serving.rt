@@ -6,7 +6,7 @@ ghost use Rattle.broker_answers.specs.Servants.{acts};
 ghost use Rattle.iiop_broker.specs.Outcomes.{Ends};
 ghost use Rattle.event_loop.specs.Visits.{AreServedBy};
 ghost use Rattle.event_loop.specs.declared.serving.Interruption.TheVariants.{Unaccepted, Endless};
-ghost use Rattle.event_loop.specs.inner.Going.{GoesOn, IsUnderWay};
+ghost use Rattle.event_loop.specs.inner.Going.{GoesOn, IsUnderWay, WereAsked};
 
 use crate::listener::{End, Listener};
 use crate::slot::{Slot, closed};
@@ -18,7 +18,7 @@ use std::alloc::Global;
 /// Why not all connections were served to their end.
 #[derive(Clone, Copy, Debug, PartialEq, Eq)]
 pub enum Interruption {
-    /// No connection can come.
+    /// No connection can come, and none is there.
     Unaccepted,
     /// All were asked as often as is allowed.
     Endless,
@@ -44,6 +44,8 @@ fn admit<S: Servant, L: Listener>(
         (L.came listener.old) broker.old.world slots.old.items
         → GoesOn (L.ended listener.new) (acts S.says S.after) broker.old.served idle before
         (L.came listener.new) broker.new.world slots.new.items }
+    ensures asked { (idle : ℕ) → WereAsked idle (L.looks listener.old) slots.old.items
+        → WereAsked idle (L.looks listener.old) slots.new.items }
     ensures came { IfOk result (λ came. length (L.came listener.new) ≡ number + (if came then 1 else 0)) }
     ensures filled { OnOk result (L.there listener.new ≡ length slots.new.items) }
     ensures few { length slots.new.items ≤ length slots.old.items + 1 }
@@ -51,6 +53,7 @@ fn admit<S: Servant, L: Listener>(
     ensures port { L.port listener.new ≡ L.port listener.old }
     ensures cause { IfErr result (λ interruption. interruption ≡ Unaccepted) }
     ensures failed { OnErr result (L.failure listener.new ≡ true) }
+    ensures nobody { OnErr result (L.there listener.new ≡ 0) }
     ensures looks { L.looks listener.new ≡ L.looks listener.old }
     ensures same { broker.new.served ≡ broker.old.served }
 {
@@ -102,6 +105,8 @@ fn admit_next<S: Servant, L: Listener>(
         (L.came listener.old) broker.old.world slots.old.items
         → GoesOn (L.ended listener.new) (acts S.says S.after) broker.old.served idle before
         (L.came listener.new) broker.new.world slots.new.items }
+    ensures asked { (idle : ℕ) → WereAsked idle (L.looks listener.old) slots.old.items
+        → WereAsked idle (L.looks listener.old) slots.new.items }
     ensures begun { OnOk result (progress.new.begun ≡ length (L.came listener.new)) }
     ensures upto { OnOk result (progress.new.begun ≤ progress.new.count) }
     ensures filled { OnOk result (L.there listener.new ≡ length slots.new.items) }
@@ -112,6 +117,7 @@ fn admit_next<S: Servant, L: Listener>(
     ensures at_once { progress.new.at_once ≡ progress.old.at_once }
     ensures cause { IfErr result (λ interruption. interruption ≡ Unaccepted) }
     ensures failed { OnErr result (L.failure listener.new ≡ true) }
+    ensures nobody { OnErr result (L.there listener.new ≡ 0) }
     ensures looks { L.looks listener.new ≡ L.looks listener.old }
     ensures same { broker.new.served ≡ broker.old.served }
 {
@@ -127,11 +133,15 @@ fn admit_next<S: Servant, L: Listener>(
 
 /// Serves so many connections, at most so many of them at the same time: what comes on each is
 /// answered as the talk of all says, in the order in which it comes. A connection ends when all was
-/// read, the broker closed it, a read or a write failed, memory was wanted for what came on it, or
-/// no octets moved on it for so many milliseconds, where these aren't 0; the others go on.
+/// read, the broker closed it, a read or a write failed, memory was wanted for what came on it, or it
+/// has passed a limit of so many milliseconds by the times that the listener told, unless they are 0;
+/// the others go on. A limit is passed where nothing moved between messages, a message that was begun
+/// isn't whole or an answer isn't taken for so long, whatever moved meanwhile. The time is told in each
+/// round for each of them.
 ///
 /// # Errors
-/// `Unaccepted` where a connection can't be accepted. `Endless` after 2 ^ 64 - 1 rounds.
+/// `Unaccepted` where a connection can't be accepted and none is there. `Endless` after 2 ^ 64 - 1
+/// rounds.
 pub fn serve_at_once<S: Servant, L: Listener>(
     alloc: Global,
     broker: &mut Broker<S>,
@@ -154,6 +164,7 @@ pub fn serve_at_once<S: Servant, L: Listener>(
     ensures port { L.port listener.new ≡ L.port listener.old }
     ensures alone { OnOk result (broker.new.world.there ≡ []) }
     ensures failed { IfErr result (λ interruption. interruption ≡ Unaccepted → L.failure listener.new ≡ true) }
+    ensures nobody { IfErr result (λ interruption. interruption ≡ Unaccepted → L.there listener.new ≡ 0) }
     ensures endless { IfErr result (λ interruption. interruption ≡ Endless
         → L.looks listener.new ≡ 18446744073709551615) }
     ensures same { broker.new.served ≡ broker.old.served }

@@ -1,19 +1,21 @@
 //! A connection that is served.
 
-ghost use Rattle.std.specs.Prelude.{◌≡◌, ◌≢◌, ◌↔◌, ◌<◌, ◌++◌, ◌∷◌, [], List, ℕ, true, IsTrue, length};
+ghost use Rattle.std.specs.Prelude.{◌≡◌, ◌≢◌, ◌↔◌, ◌<◌, ◌+◌, ◌++◌, ◌∷◌, [], List, ℕ, true, IsTrue, length};
 ghost use Rattle.giop_messages.specs.Messages.{Closes, Says};
 ghost use Rattle.broker_answers.specs.Servants.{acts};
 ghost use Rattle.iiop_broker.specs.Listed.{IsThere};
 ghost use Rattle.iiop_broker.specs.Outcomes.{Ends};
-ghost use Rattle.event_loop.specs.Visits.{Gone, IsIdle, IsShutAt, gone};
+ghost use Rattle.event_loop.specs.Telling.{IsAsked};
+ghost use Rattle.event_loop.specs.Visits.{Gone, IsShutAt};
 ghost use Rattle.event_loop.specs.declared.listener.End.{End};
-ghost use Rattle.event_loop.specs.declared.listener.End.TheVariants.{Idle};
 ghost use Rattle.event_loop.specs.declared.slot.Course.TheVariants.{Over};
-ghost use Rattle.event_loop.specs.inner.Going.{IsGoing, IsOn, Slotted, slotted};
-ghost use Rattle.event_loop.specs.inner.Turns.{HasClosed, HasHeard, HasParted, HasSent, IsLetGo, HasWaited};
+ghost use Rattle.event_loop.specs.inner.Going.{AreInTime, IsGoing, IsOn, Slotted, stays, slotted};
+ghost use Rattle.event_loop.specs.inner.Turns.{HasAsked, HasClosed, HasHeard, HasParted, HasSent, HasStood, IsJudged, IsLetGo};
+ghost use Rattle.event_loop.specs.inner.Waits.{unwaited};
 
 use crate::connection::Connection;
-use crate::listener::End;
+use crate::limits::{Standing, Waits};
+use crate::listener::{End, Limit, Listener};
 use crate::reading::read_within;
 use iiop_broker::{Broker, BrokerFault, Event, Servant};
 use std::alloc::Global;
@@ -38,8 +40,8 @@ fn close_connection() -> [u8; 12]
 
 /// Says that no more is heard, or a part of that, as far as it goes at once.
 fn close<C: Connection>(connection: &mut C)
-    ensures closed { HasClosed (C.told connection.old) (C.told connection.new) }
-    ensures quiet { C.quiet connection.new ≡ C.quiet connection.old }
+    ensures { HasClosed (C.told connection.old) (C.trace connection.old) (C.told connection.new)
+        (C.trace connection.new) }
 {
     let message = close_connection();
     match connection.write(message.as_slice()) {
@@ -53,20 +55,22 @@ fn close<C: Connection>(connection: &mut C)
 pub(crate) fn closed<C: Connection>(connection: C) -> C
     ensures shut { C.shut result ≡ true }
     ensures told { C.told result ≡ C.told connection }
-    ensures quiet { C.quiet result ≡ C.quiet connection }
+    ensures trace { C.trace result ≡ C.trace connection }
 {
     let mut connection = connection;
     connection.shut();
     connection
 }
 
-/// A connection with its number and its last answer, of which so much is sent.
+/// A connection with its number and its last answer, of which so much is sent, and since when it
+/// waits for what.
 #[derive(Drop)]
 pub(crate) struct Slot<C: Connection> {
     number: u32,
     connection: C,
     answer: Vec<u8>,
     sent: usize,
+    waits: Waits,
 }
 
 impl<C: Connection> Model for Slot<C> {
@@ -77,19 +81,20 @@ impl<C: Connection> Model for Slot<C> {
 
     ghost invariant = { λ s. s.sent ≤ length s.answer.items };
 
-    ghost view = { λ s. slotted s.number (C.told s.connection) (C.quiet s.connection) (drop s.sent s.answer.items) };
+    ghost view = { λ s. slotted s.number (C.told s.connection) (C.trace s.connection) s.waits (drop s.sent s.answer.items) };
 }
 
 impl<C: Connection> Slot<C> {
     /// One on which nothing was said yet. Takes no memory.
     pub(crate) fn new(alloc: Global, number: u32, connection: C) -> Self
-        ensures { result ≡ slotted number (C.told connection) (C.quiet connection) [] }
+        ensures { result ≡ slotted number (C.told connection) (C.trace connection) unwaited [] }
     {
         Slot {
             number,
             connection,
             answer: Vec::new(alloc),
             sent: 0,
+            waits: Waits::new(),
         }
     }
 
@@ -102,14 +107,14 @@ impl<C: Connection> Slot<C> {
     /// The connection, to which nothing was said.
     fn into_plain(self) -> C
         ensures told { C.told result ≡ self.told }
-        ensures quiet { C.quiet result ≡ self.quiet }
+        ensures trace { C.trace result ≡ self.trace }
     {
         self.connection
     }
 
     /// The connection, behind whose answers stands that no more is heard, or a part of that.
     fn into_parted(self) -> C
-        ensures { HasParted self (gone (C.told result) (C.quiet result) Idle) }
+        ensures { HasParted self (C.told result) (C.trace result) }
     {
         if !self.is_sent() {
             return self.connection;
@@ -121,11 +126,11 @@ impl<C: Connection> Slot<C> {
 
     /// The connection as it is handed back.
     pub(crate) fn into_connection(self, end: End) -> C
-        ensures let_go { IsLetGo self end (gone (C.told result) (C.quiet result) end) }
+        ensures let_go { IsLetGo self end (C.told result) (C.trace result) }
         ensures shut { IsShutAt end (C.shut result) }
     {
         match end {
-            End::Idle => closed(self.into_parted()),
+            End::Late(_) => closed(self.into_parted()),
             End::Finished => closed(self.into_plain()),
             End::Failed => self.into_plain(),
             End::GivenUp => closed(self.into_plain()),
@@ -187,10 +192,12 @@ impl<C: Connection> Slot<C> {
         requires there { IsThere self.old.number broker.old.world.there }
         requires room { 0 < length buffer.old }
         ensures on { (idle : ℕ) (before : S) (came : List Ends) (ended : List (ℕ × Gone)) (front back : List Slotted)
-            → IsGoing (acts S.says S.after) broker.old.served idle before came ended
-            broker.old.world (front ++ self.old ∷ back)
+            → (going : IsGoing (acts S.says S.after) broker.old.served idle before came ended
+            broker.old.world (front ++ self.old ∷ back))
+            → AreInTime idle going.said broker.old.world.there (front ++ self.old ∷ back)
             → IsOn (acts S.says S.after) broker.old.served idle before came ended
-            broker.new.world front self.new back result }
+            broker.new.world (stays result) front self.new back result }
+        ensures asked { (looks : ℕ) → IsAsked looks self.old.trace → IsAsked looks self.new.trace }
         ensures same { broker.new.served ≡ broker.old.served }
         ensures as_long { length buffer.new ≡ length buffer.old }
     {
@@ -202,39 +209,104 @@ impl<C: Connection> Slot<C> {
         }
         self.hear(broker, buffer)
     }
-    /// Whether it is over since no octets moved for so many milliseconds. 0 are none.
-    fn rest(&mut self, idle: u64) -> Course
-        ensures waited { HasWaited self.old self.new }
-        ensures idle { (end : End) → result ≡ Over end → (end ≡ Idle) × IsIdle idle self.new.quiet }
-    {
-        if idle > 0 && self.connection.is_quiet(idle) {
-            return Course::Over(End::Idle);
-        }
-        Course::Still
-    }
 
-    /// Serves the connection as far as it goes at once; it is over too where no octets moved for so
-    /// many milliseconds, unless they are 0.
-    pub(crate) fn serve<S: Servant>(
-        &mut self,
-        broker: &mut Broker<S>,
-        buffer: &mut [u8],
-        idle: u64,
-    ) -> Course
-        requires there { IsThere self.old.number broker.old.world.there }
-        requires room { 0 < length buffer.old }
-        ensures on { (before : S) (came : List Ends) (ended : List (ℕ × Gone)) (front back : List Slotted)
-            → IsGoing (acts S.says S.after) broker.old.served idle before came ended
-            broker.old.world (front ++ self.old ∷ back)
-            → IsOn (acts S.says S.after) broker.old.served idle before came ended
-            broker.new.world front self.new back result }
-        ensures same { broker.new.served ≡ broker.old.served }
-        ensures as_long { length buffer.new ≡ length buffer.old }
+    /// What holds of it when the time is told, where it went so in its turn.
+    fn standing<S: Servant>(&self, broker: &Broker<S>, course: Course) -> Standing
+        ensures { HasStood broker.now.world.there self.now course result }
     {
-        let course = self.go_on(broker, buffer);
-        match course {
-            Course::Still => self.rest(idle),
-            _ => course,
+        let untaken = !self.is_sent();
+        let begun = broker.is_begun(self.number);
+        Standing {
+            silent: course == Course::Still && !begun && !untaken,
+            begun,
+            untaken,
         }
+    }
+}
+
+/// Tells it the time: a limit that it passed, if it did.
+fn ask<L: Listener>(
+    listener: &mut L,
+    slot: &mut Slot<L::Connection>,
+    standing: Standing,
+    idle: u64,
+) -> Option<Limit>
+    ensures asked { HasAsked idle (L.looks listener.old) slot.old standing slot.new result }
+    ensures came { L.came listener.new ≡ L.came listener.old }
+    ensures ended { (all : List (ℕ × Gone)) → L.ended listener.old all → L.ended listener.new all }
+    ensures there { L.there listener.new ≡ L.there listener.old }
+    ensures most { L.most listener.new ≡ L.most listener.old }
+    ensures port { L.port listener.new ≡ L.port listener.old }
+    ensures looks { L.looks listener.new ≡ L.looks listener.old }
+{
+    let now = listener.time(&mut slot.connection);
+    slot.waits = slot.waits.at(standing, now);
+    slot.waits.passed(idle, now)
+}
+
+/// What becomes of a connection that isn't over, which went so in its turn: it is over where it is
+/// closed and all is sent, or passed a limit.
+fn judge<S: Servant, L: Listener>(
+    broker: &Broker<S>,
+    listener: &mut L,
+    slot: &mut Slot<L::Connection>,
+    course: Course,
+    idle: u64,
+) -> Course
+    requires going { (end : End) → course ≢ Over end }
+    ensures judged { IsJudged idle (L.looks listener.old) broker.now.world.there slot.old course slot.new result }
+    ensures came { L.came listener.new ≡ L.came listener.old }
+    ensures ended { (all : List (ℕ × Gone)) → L.ended listener.old all → L.ended listener.new all }
+    ensures there { L.there listener.new ≡ L.there listener.old }
+    ensures most { L.most listener.new ≡ L.most listener.old }
+    ensures port { L.port listener.new ≡ L.port listener.old }
+    ensures looks { L.looks listener.new ≡ L.looks listener.old }
+{
+    if slot.is_sent() && broker.is_closed(slot.number()) {
+        return Course::Over(End::Finished);
+    }
+    let standing = slot.standing(broker, course);
+    match ask(listener, slot, standing, idle) {
+        Some(limit) => Course::Over(End::Late(limit)),
+        None => course,
+    }
+}
+
+/// Serves the connection as far as it goes at once; it is over too where it passed a limit, unless
+/// that is 0.
+pub(crate) fn serve<S: Servant, L: Listener>(
+    broker: &mut Broker<S>,
+    listener: &mut L,
+    slot: &mut Slot<L::Connection>,
+    buffer: &mut [u8],
+    idle: u64,
+) -> Course
+    requires there { IsThere slot.old.number broker.old.world.there }
+    requires room { 0 < length buffer.old }
+    ensures on { (before : S) (came : List Ends) (ended : List (ℕ × Gone)) (front back : List Slotted)
+        → (going : IsGoing (acts S.says S.after) broker.old.served idle before came ended
+        broker.old.world (front ++ slot.old ∷ back))
+        → AreInTime idle going.said broker.old.world.there (front ++ slot.old ∷ back)
+        → IsOn (acts S.says S.after) broker.old.served idle before came ended
+        broker.new.world true front slot.new back result }
+    ensures asked { IsAsked (L.looks listener.old) slot.old.trace → IsAsked (L.looks listener.old) slot.new.trace }
+    ensures in_turn { 0 < idle → ((end : End) → result ≢ Over end)
+        → IsAsked (L.looks listener.old) slot.old.trace → IsAsked (L.looks listener.old + 1) slot.new.trace }
+    ensures came { L.came listener.new ≡ L.came listener.old }
+    ensures ended { (all : List (ℕ × Gone)) → L.ended listener.old all → L.ended listener.new all }
+    ensures there { L.there listener.new ≡ L.there listener.old }
+    ensures most { L.most listener.new ≡ L.most listener.old }
+    ensures port { L.port listener.new ≡ L.port listener.old }
+    ensures looks { L.looks listener.new ≡ L.looks listener.old }
+    ensures same { broker.new.served ≡ broker.old.served }
+    ensures as_long { length buffer.new ≡ length buffer.old }
+{
+    let course = slot.go_on(broker, buffer);
+    if idle == 0 {
+        return course;
+    }
+    match course {
+        Course::Over(end) => Course::Over(end),
+        _ => judge(broker, listener, slot, course, idle),
     }
 }

@@ -6,13 +6,13 @@ ghost use Rattle.broker_answers.specs.Streams.{Closed};
 ghost use Rattle.broker_answers.specs.Talk.{world};
 ghost use Rattle.broker_answers.specs.Objects.{AreServed, objects_of, served};
 ghost use Rattle.broker_answers.specs.Servants.{acts};
-ghost use Rattle.iiop_broker.specs.Room.{room_of};
+ghost use Rattle.iiop_broker.specs.Room.{is_begun, room_of};
 ghost use Rattle.iiop_broker.specs.World.{IsRefused, IsStep, broking, event_of};
 
 use crate::connections::{Connection, begin, end, is_closed, is_there};
 use crate::event::Event;
 use crate::fault::BrokerFault;
-use crate::room::room;
+use crate::room::{is_begun, room};
 use crate::server::Server;
 use broker_answers::{Servant, Service};
 use giop::Giop;
@@ -74,6 +74,14 @@ impl<S: Servant> Broker<S> {
         ensures { IsTrue result ↔ (at c self.now.world.there ≡ Some Closed) }
     {
         is_closed(self.connections.as_slice(), c)
+    }
+
+    /// Whether a message is begun on the connection of a number and isn't whole, also a request whose
+    /// fragments are coming. Takes no memory.
+    pub fn is_begun(&self, c: u32) -> bool
+        ensures { result ≡ is_begun (at c self.now.world.there) }
+    {
+        is_begun(self.connections.as_slice(), c)
     }
 
     /// How many octets of the connection of a number are to be read next at most: what the message at

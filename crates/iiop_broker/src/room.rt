@@ -3,7 +3,7 @@
 ghost use Rattle.std.specs.Prelude.{◌≡◌, ◌<◌, ◌≤◌};
 ghost use Rattle.broker_answers.specs.Connections.{at};
 ghost use Rattle.iiop_broker.specs.Kept.{streams_of};
-ghost use Rattle.iiop_broker.specs.Room.{room_of, wanted};
+ghost use Rattle.iiop_broker.specs.Room.{is_begun, room_of, wanted};
 
 use crate::connections::{Connection, kept_of};
 use crate::kept::Kept;
@@ -35,5 +35,16 @@ pub(crate) fn room(connections: &[Connection], c: u32) -> usize
         Some(Kept::Open { run: _, rest }) => wanted(rest.as_slice()).min(MAX_ROOM).max(1),
         Some(Kept::Closed) => HEAD_LEN,
         None => HEAD_LEN,
+    }
+}
+
+/// Whether a message is begun on the connection of a number and isn't whole.
+pub(crate) fn is_begun(connections: &[Connection], c: u32) -> bool
+    ensures { result ≡ is_begun (at c (streams_of connections.now)) }
+{
+    match kept_of(connections, c) {
+        Some(Kept::Open { run, rest }) => run.is_some() || !rest.is_empty(),
+        Some(Kept::Closed) => false,
+        None => false,
     }
 }

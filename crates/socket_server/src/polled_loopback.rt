@@ -1,6 +1,6 @@
 //! Sockets of this machine alone, on which no call waits.
 
-ghost use Rattle.std.specs.Prelude.{◌≡◌, ◌≤◌, ⊤, replicate, IfOk};
+ghost use Rattle.std.specs.Prelude.{◌≡◌, ◌≤◌, ⊤, replicate, true, IfOk, None, OnErr};
 ghost use Rattle.socket_server.specs.Visits.{untold};
 
 use crate::leaving::{LIMITS, Leaving};
@@ -16,7 +16,7 @@ use partings::Partings;
 use std::alloc::{AllocError, Global};
 use std::io::ErrorKind;
 use std::net::{Ipv4Addr, Net, SocketAddr};
-use std::time::{Clock, Duration};
+use std::time::{Clock, Duration, Instant};
 
 /// As many events are taken at a time: of 64 connections, and of those that wait to come.
 const EVENTS: usize = 65;
@@ -79,7 +79,7 @@ impl Port {
 }
 
 /// Listens on 127.0.0.1. Its connections tell nothing of the octets that they carry. An accept that
-/// fails is tried again, and the first is told.
+/// fails is tried again, as long as connections are there and for a minute else; the first is told.
 #[derive(Drop)]
 pub struct PolledLoopback<'r, R: Net + Clock + Eprint> {
     net: &'r R,
@@ -91,6 +91,9 @@ pub struct PolledLoopback<'r, R: Net + Clock + Eprint> {
     /// Those that are let go of.
     leaving: Partings<Leaving<'r, R, TcpStream>>,
     totals: Totals,
+    /// When the time was told first, and how many milliseconds later it was when it was told last.
+    start: Option<Instant>,
+    millis: u64,
     /// How many connections have come, are there, and were there at the same time at most.
     count: u64,
     there: u64,
@@ -115,6 +118,8 @@ impl<'r, R: Net + Clock + Eprint> PolledLoopback<'r, R> {
             events: Events::with_capacity(alloc, EVENTS)?,
             leaving: Partings::new(alloc),
             totals: Totals::new(),
+            start: None,
+            millis: 0,
             count: 0,
             there: 0,
             most: 0,
@@ -173,6 +178,28 @@ impl<'r, R: Net + Clock + Eprint> PolledLoopback<'r, R> {
         self.totals
     }
 
+    /// What an accept that failed comes to: as long as connections are there it is waited out.
+    fn missed(&mut self) -> Result<Option<PolledStream>, Failed>
+        ensures alone { OnErr result (self.old.there ≡ 0) }
+        ensures failed { OnErr result (self.new.failed ≡ true) }
+        ensures none { IfOk result (λ got. got ≡ None) }
+        ensures count { self.new.count ≡ self.old.count }
+        ensures there { self.new.there ≡ self.old.there }
+        ensures most { self.new.most ≡ self.old.most }
+        ensures number { self.new.number ≡ self.old.number }
+        ensures looks { self.new.looks ≡ self.old.looks }
+    {
+        if self.there > 0 {
+            self.misses.wait_out(self.net);
+            return Ok(None);
+        }
+        if self.misses.add(self.net) {
+            return Ok(None);
+        }
+        self.failed = true;
+        Err(Failed)
+    }
+
     /// The next connection, where a port is listened on.
     fn next(&self) -> Result<Option<TcpStream>, Failed> {
         match &self.port {
@@ -183,7 +210,7 @@ impl<'r, R: Net + Clock + Eprint> PolledLoopback<'r, R> {
 }
 
 impl<'r, R: Net + Clock + Eprint> Listener for PolledLoopback<'r, R> {
-    type Connection = PolledStream<'r, R>;
+    type Connection = PolledStream;
 
     ghost came = { λ it. replicate it.count untold };
 
@@ -206,32 +233,37 @@ impl<'r, R: Net + Clock + Eprint> Listener for PolledLoopback<'r, R> {
         Ok(())
     }
 
-    fn accept(&mut self) -> Result<Option<PolledStream<'r, R>>, Failed> {
+    fn accept(&mut self) -> Result<Option<PolledStream>, Failed> {
         if self.misses.is_fresh(self.net) {
             return Ok(None);
         }
-        match self.next() {
-            Ok(None) => Ok(None),
-            Ok(Some(stream)) => {
-                let Some(count) = self.count.checked_add(1) else {
-                    self.failed = true;
-                    return Err(Failed);
-                };
+        match (self.next(), self.count.checked_add(1)) {
+            (Ok(None), _) => Ok(None),
+            (Ok(Some(stream)), Some(count)) => {
                 self.misses.clear();
                 self.count = count;
                 self.there += 1;
                 self.most = self.most.max(self.there);
-                Ok(Some(PolledStream::new(self.net, stream)))
+                Ok(Some(PolledStream::new(stream)))
             }
-            Err(_) if self.misses.add(self.net) => Ok(None),
-            Err(_) => {
-                self.failed = true;
-                Err(Failed)
-            }
+            _ => self.missed(),
         }
     }
 
-    fn hand_back(&mut self, _number: u32, connection: PolledStream<'r, R>, end: End) {
+    /// A clock that can't be read stands still.
+    fn time(&mut self, _connection: &mut PolledStream) -> u64 {
+        match (self.start, Instant::now(self.net)) {
+            (Some(start), Ok(now)) => {
+                let millis = now.duration_since(start).as_millis();
+                self.millis = u64::try_from(millis).unwrap_or(u64::MAX);
+            }
+            (None, Ok(now)) => self.start = Some(now),
+            (_, Err(_)) => {}
+        }
+        self.millis
+    }
+
+    fn hand_back(&mut self, _number: u32, connection: PolledStream, end: End) {
         self.there -= 1;
         let (stream, read, written) = connection.into_parts();
         self.totals.add(&read, &written);

@@ -10,17 +10,12 @@ use event_loop::Connection;
 use iiop_broker::Failed;
 use mio::net::TcpStream;
 use std::net::Shutdown;
-use std::time::{Clock, Instant};
 
 /// A connection of this machine's. It tells nothing of the octets that it carries.
 #[derive(Drop)]
-pub struct PolledStream<'r, R: Clock> {
-    clock: &'r R,
+pub struct PolledStream {
     stream: TcpStream,
     ahead: Ahead,
-    /// When it was asked first since octets moved last.
-    since: Option<Instant>,
-    quiet: u64,
     read: Tally,
     written: Tally,
     unread: bool,
@@ -28,17 +23,14 @@ pub struct PolledStream<'r, R: Clock> {
     is_shut: bool,
 }
 
-impl<'r, R: Clock> PolledStream<'r, R> {
-    pub(crate) fn new(clock: &'r R, stream: TcpStream) -> PolledStream<'r, R>
+impl PolledStream {
+    pub(crate) fn new(stream: TcpStream) -> PolledStream
         ensures unread { result.unread ≡ false }
         ensures unwritten { result.unwritten ≡ false }
     {
         PolledStream {
-            clock,
             stream,
             ahead: Ahead::new(),
-            since: None,
-            quiet: 0,
             read: Tally::new(),
             written: Tally::new(),
             unread: false,
@@ -51,39 +43,18 @@ impl<'r, R: Clock> PolledStream<'r, R> {
     pub(crate) fn into_parts(self) -> (TcpStream, Tally, Tally) {
         (self.stream, self.read, self.written)
     }
-
-    /// For how many milliseconds no octets have moved. A clock that can't be read counts none.
-    fn quiet_now(&mut self) -> u64
-        ensures unread { self.new.unread ≡ self.old.unread }
-        ensures unwritten { self.new.unwritten ≡ self.old.unwritten }
-    {
-        let Ok(now) = Instant::now(self.clock) else {
-            return 0;
-        };
-        match self.since {
-            Some(since) => {
-                let quiet = now.duration_since(since).as_millis();
-                u64::try_from(quiet).unwrap_or(u64::MAX)
-            }
-            None => {
-                self.since = Some(now);
-                0
-            }
-        }
-    }
 }
 
-impl<'r, R: Clock> Connection for PolledStream<'r, R> {
+impl Connection for PolledStream {
     ghost told = { λ one. ends None None one.unread one.unwritten };
 
-    ghost quiet = { λ one. one.quiet };
+    ghost trace = { λ one. None };
 
     ghost shut = { λ one. one.is_shut };
 
     fn read(&mut self, buffer: &mut [u8]) -> Result<Option<usize>, Failed> {
         match self.ahead.read(&mut self.stream, buffer) {
             Ok(Some(n)) => {
-                self.since = None;
                 self.read.see(buffer.split_at(n).0);
                 Ok(Some(n))
             }
@@ -98,7 +69,6 @@ impl<'r, R: Clock> Connection for PolledStream<'r, R> {
     fn write(&mut self, octets: &[u8]) -> Result<Option<usize>, Failed> {
         match write_now(&mut self.stream, octets) {
             Ok(Some(n)) => {
-                self.since = None;
                 self.written.see(octets.split_at(n).0);
                 if n == 0 && !octets.is_empty() {
                     self.unwritten = true;
@@ -111,11 +81,6 @@ impl<'r, R: Clock> Connection for PolledStream<'r, R> {
                 Err(Failed)
             }
         }
-    }
-
-    fn is_quiet(&mut self, least: u64) -> bool {
-        self.quiet = self.quiet_now();
-        self.quiet >= least
     }
 
     fn shut(&mut self) {

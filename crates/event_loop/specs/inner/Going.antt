@@ -1,7 +1,8 @@
 -- Connections that are served.
-use Rattle.std.specs.Prelude.{◌≡◌, ℕ, suc, ◌<◌, ◌≤◌, ◌⊎◌, ◌≢◌, List, [], ◌∷◌, ◌++◌, length, map, Some, slice_get}
+use Rattle.std.specs.Prelude.{◌≡◌, ℕ, suc, ◌+◌, ◌<◌, ◌≤◌, ◌⊎◌, ◌≢◌, Bool, true, false, List, [], ◌∷◌, ◌++◌, length, map, Option, Some, None, slice_get}
 use Rattle.std.specs.List.{All, Contains}
-use Rattle.broker_answers.specs.Streams.{Stream}
+use Rattle.broker_answers.specs.Streams.{Stream, Closed, cut}
+use Rattle.broker_answers.specs.Connections.{at}
 use Rattle.broker_answers.specs.Talk.{World, world, rests, Follows}
 use Rattle.broker_answers.specs.Servants.{Acting}
 use Rattle.broker_answers.specs.Objects.{Served}
@@ -10,19 +11,26 @@ use Rattle.iiop_broker.specs.Ends.{Adds, Gives}
 use Rattle.iiop_broker.specs.Outcomes.{Ends}
 use Rattle.event_loop.specs.declared.listener.End.{End}
 use Rattle.event_loop.specs.declared.slot.Course.{Course}
-use Rattle.event_loop.specs.declared.slot.Course.TheVariants.{Over}
-use Rattle.event_loop.specs.Carried.{Log, answered, brought, connection_of}
+use Rattle.event_loop.specs.declared.slot.Course.TheVariants.{Moved, Still, Over}
+use Rattle.event_loop.specs.declared.limits.Waits.{Waits}
+use Rattle.event_loop.specs.declared.listener.Limit.TheVariants.{Silence, Message, Answer}
+use Rattle.event_loop.specs.Carried.{Log, answered, brought, connection_of, hearings}
+use Rattle.event_loop.specs.Limits.{Deed, IsInTime, IsTimed, Lasts, answers, heard, is_still, mark_of, pieces, sent}
+use Rattle.event_loop.specs.Telling.{AreNoted, IsAsked, Trace}
 use Rattle.event_loop.specs.Visits.{Gone, HasEnded, IsCarried}
+use Rattle.event_loop.specs.inner.Waits.{Tells}
 
--- a connection: its number, what it tells, for how long no octets moved on it, the octets that wait to be sent
+-- a connection: its number, what it tells, what it noted, since when it waits, the octets that wait to be sent
 pub record Slotted : Type 0 where
   pub number : ℕ
   pub told : Ends
-  pub quiet : ℕ
+  pub trace : Option Trace
+  pub waits : Waits
   pub waiting : List ℕ
 
-abbrev pub slotted : ℕ → Ends → ℕ → List ℕ → Slotted
-slotted number told quiet waiting = record { number = number; told = told; quiet = quiet; waiting = waiting }
+abbrev pub slotted : ℕ → Ends → Option Trace → Waits → List ℕ → Slotted
+slotted number told trace waits waiting =
+    record { number = number; told = told; trace = trace; waits = waits; waiting = waiting }
 
 abbrev pub numbers : List Slotted → List ℕ
 numbers = map (λ one. one.number)
@@ -65,13 +73,56 @@ pub record IsGoing {S : Type 0} (acting : Acting S) (served : Served) (idle : �
   pub gone : All (IsGone acting served idle before said came slots) ended
   pub all : (c : ℕ) → c < length came → Contains (numbers slots) c ⊎ Contains (keys ended) c
 
+-- what is left of its stream is kept, and since when a message is begun
+pub record IsHeard (there : List (ℕ × Stream)) (one : Slotted) (deeds : List Deed) : Type 0 where
+  pub kept : at one.number there ≡ Some (cut None (heard deeds)).left
+  pub begun : Tells (Lasts Message) deeds one.waits.begun
+
+-- One that is in time: what it did, whether something moved since it was asked the time, since when it waits for what.
+pub record IsTimedSo (idle : ℕ) (still : Bool) (said : Log) (there : List (ℕ × Stream)) (one : Slotted) : Type 0 where
+  pub deeds : List Deed
+  pub pieces_are : hearings one.number said ≡ pieces deeds
+  pub noted : AreNoted (map mark_of deeds) one.trace
+  pub still_is : is_still deeds ≡ still
+  pub waiting_is : answers deeds ≡ sent deeds ++ one.waiting
+  pub stream : (at one.number there ≡ Some Closed) ⊎ IsHeard there one deeds
+  pub silent : Tells (Lasts Silence) deeds one.waits.silent
+  pub untaken : Tells (Lasts Answer) deeds one.waits.untaken
+  pub in_time : IsInTime idle deeds
+
+abbrev pub AreInTime : ℕ → Log → List (ℕ × Stream) → List Slotted → Type 0
+AreInTime idle said there slots = 0 < idle → All (IsTimedSo idle true said there) slots
+
+-- each was asked the time in each round since it came
+abbrev pub WereAsked : ℕ → ℕ → List Slotted → Type 0
+WereAsked idle looks slots = 0 < idle → All (λ one. IsAsked looks one.trace) slots
+
+-- the place of the next one behind one that went so in its turn
+abbrev pub place_behind : Course → ℕ → ℕ
+place_behind Moved place = place + 1
+place_behind Still place = place + 1
+place_behind (Over end) place = place
+
+-- nothing moved
+abbrev pub stays : Course → Bool
+stays Moved = false
+stays Still = true
+stays (Over end) = false
+
+-- what is known of the times of one in its turn
+abbrev pub IsTurned : ℕ → Bool → Log → List (ℕ × Stream) → Slotted → Course → Type 0
+IsTurned idle still said there slot (Over end) = IsTimed idle said slot.number slot.trace end
+IsTurned idle still said there slot course = IsTimedSo idle still said there slot
+
 -- one of them was served on: where it is over, it may be let go of
 pub record IsOn {S : Type 0} (acting : Acting S) (served : Served) (idle : ℕ) (before : S) (came : List Ends)
-    (ended : List (ℕ × Gone)) (now : World S Stream) (front : List Slotted) (slot : Slotted) (back : List Slotted)
-    (course : Course) : Type 0 where
+    (ended : List (ℕ × Gone)) (now : World S Stream) (still : Bool) (front : List Slotted) (slot : Slotted)
+    (back : List Slotted) (course : Course) : Type 0 where
   pub going : IsGoing acting served idle before came ended now (front ++ slot ∷ back)
   pub over : (end : End) → course ≡ Over end
-      → HasEnded acting served idle before going.said slot.number slot.waiting slot.told slot.quiet end
+      → HasEnded acting served idle before going.said slot.number slot.waiting slot.told end
+  pub others : AreInTime idle going.said now.there (front ++ back)
+  pub own : 0 < idle → IsTurned idle still going.said now.there slot course
 
 -- the same, for some list of those that went that may be told
 pub record GoesOn {S : Type 0} (Told : List (ℕ × Gone) → Type 0) (acting : Acting S) (served : Served) (idle : ℕ)
@@ -79,6 +130,7 @@ pub record GoesOn {S : Type 0} (Told : List (ℕ × Gone) → Type 0) (acting : 
   pub ended : List (ℕ × Gone)
   pub told : Told ended
   pub going : IsGoing acting served idle before came ended now slots
+  pub in_time : AreInTime idle going.said now.there slots
 
 pub record IsUnderWay {S : Type 0} (Told : List (ℕ × Gone) → Type 0) (acting : Acting S) (served : Served)
     (idle : ℕ) (came : List Ends) (now : World S Stream) (slots : List Slotted) : Type 0 where

@@ -1,11 +1,12 @@
-use Rattle.std.proofs.Common.{rules, ◌≡◌, ◌∙◌, [], List, refl, sym, ap, subst, arith}
+use Rattle.std.proofs.Common.{rules, ◌≡◌, ◌+◌, ◌∙◌, ℕ, [], List, refl, sym, ap, subst, arith}
+use Rattle.std.proofs.lemmas.Bool.{eqb-true}
 use Rattle.broker_answers.specs.Talk.{world}
 use Rattle.broker_answers.specs.Servants.{acts}
 use Rattle.broker_answers.specs.Objects.{Served}
 use Rattle.iiop_broker.specs.Outcomes.{Ends}
-use Rattle.event_loop.specs.inner.Going.{Slotted, numbers, IsGoing, GoesOn}
+use Rattle.event_loop.specs.inner.Going.{Slotted, WereAsked, numbers, IsGoing, GoesOn}
 use Rattle.event_loop.proofs.Keys.{no_items, no_keys}
-use Rattle.event_loop.proofs.Visits.{starts, said_of, all_served}
+use Rattle.event_loop.proofs.Visits.{none_asked, starts_on, said_of, all_served}
 use Rattle.event_loop.proofs.serving.serve_at_once.Goals as goal
 
 pub loop-init : goal.loop-init
@@ -24,13 +25,12 @@ loop-init g c =
       few = search rules;
       count = refl;
       at_once = refl;
-      going = record {
-        ended = [];
-        told = c.requires.none;
-        going = subst (λ (xs : List Ends). IsGoing acting c.args.broker.now.served c.args.idle w.servant xs [] w c.new-slots.result.items) (sym c.requires.fresh)
-            (subst (λ (ss : List Slotted). IsGoing acting c.args.broker.now.served c.args.idle w.servant [] [] w ss) (sym c.new-slots.ensures.items)
-            (starts acting c.args.broker.now.served c.args.idle w.servant w (ap (λ x. world w.servant x) c.requires.alone)));
-      };
+      asked = subst (λ (ss : List Slotted). WereAsked c.args.idle (g.L.Listener.looks c.args.listener.now) ss) (sym c.new-slots.ensures.items)
+          (none_asked c.args.idle (g.L.Listener.looks c.args.listener.now));
+      going = subst (λ (xs : List Ends). GoesOn (g.L.Listener.ended c.args.listener.now) acting c.args.broker.now.served c.args.idle w.servant xs w c.new-slots.result.items) (sym c.requires.fresh)
+          (subst (λ (ss : List Slotted). GoesOn (g.L.Listener.ended c.args.listener.now) acting c.args.broker.now.served c.args.idle w.servant [] w ss) (sym c.new-slots.ensures.items)
+          (starts_on acting c.args.broker.now.served c.args.idle w.servant (g.L.Listener.ended c.args.listener.now) w c.requires.none
+          (ap (λ x. world w.servant x) c.requires.alone)));
     }
 
 pub returns-then-is_empty-clause-served : goal.returns-then-is_empty-clause-served
@@ -43,8 +43,8 @@ returns-then-is_empty-clause-served g c =
     let start = subst (λ (s : Served). GoesOn (g.L.Listener.ended c.loop.listener) acting s c.args.idle before (g.L.Listener.came c.loop.listener) c.loop.broker.world c.loop.slots.items) (sym same) c.loop.invariant.going in
     let now = subst (λ (s : Served). GoesOn (g.L.Listener.ended l) acting s c.args.idle before (g.L.Listener.came l) w c.admit_next.new.slots.items) same
     (c.admit_next.ensures.going c.args.idle before start) in
-    let empty = no_items c.admit_next.new.slots.items in
-    let none : c.admit_next.new.slots.items ≡ [] = search rules in
+    let zero : c.admit_next.new.slots.len ≡ 0 = eqb-true c.admit_next.new.slots.len 0 (sym c.if-is_empty.ensures) in
+    let none = no_items c.admit_next.new.slots.items (omega (arith, zero, c.admit_next.new.slots.ok)) in
     let all = subst (λ (ss : List Slotted). IsGoing acting c.args.broker.now.served c.args.idle before (g.L.Listener.came l) now.ended w ss) none now.going in (
       now.ended,
       now.told,
@@ -60,8 +60,8 @@ returns-then-is_empty-clause-alone g c =
     let same = c.loop.invariant.served in
     let start = subst (λ (s : Served). GoesOn (g.L.Listener.ended c.loop.listener) acting s c.args.idle before (g.L.Listener.came c.loop.listener) c.loop.broker.world c.loop.slots.items) (sym same) c.loop.invariant.going in
     let now = c.admit_next.ensures.going c.args.idle before start in
-    let empty = no_items c.admit_next.new.slots.items in
-    let none : c.admit_next.new.slots.items ≡ [] = search rules in
+    let zero : c.admit_next.new.slots.len ≡ 0 = eqb-true c.admit_next.new.slots.len 0 (sym c.if-is_empty.ensures) in
+    let none = no_items c.admit_next.new.slots.items (omega (arith, zero, c.admit_next.new.slots.ok)) in
     no_keys c.admit_next.new.broker.world.there (now.going.there ∙ ap (λ (ss : List Slotted). numbers ss) none)
 
 pub sweep-moved-requires-clause-under_way : goal.sweep-moved-requires-clause-under_way
@@ -75,6 +75,11 @@ sweep-moved-requires-clause-under_way g c =
           (sym c.admit_next.ensures.same) (c.admit_next.ensures.going c.args.idle before start);
     }
 
+pub sweep-moved-requires-clause-asked : goal.sweep-moved-requires-clause-asked
+sweep-moved-requires-clause-asked g c =
+    subst (λ (n : ℕ). WereAsked c.args.idle n c.admit_next.new.slots.items) (sym c.admit_next.ensures.looks)
+    (c.admit_next.ensures.asked c.args.idle c.loop.invariant.asked)
+
 pub loop-preserved : goal.loop-preserved
 loop-preserved g c =
     let acting = acts g.S.Servant.says g.S.Servant.after in
@@ -86,7 +91,9 @@ loop-preserved g c =
     let swept = c.sweep-moved.ensures.going before next in
     let came : g.L.Listener.came c.look.new.self ≡ g.L.Listener.came c.admit_next.new.listener = search rules in
     let goes : GoesOn (g.L.Listener.ended c.look.new.self) acting c.admit_next.new.broker.served c.args.idle before (g.L.Listener.came c.admit_next.new.listener) c.sweep-moved.new.broker.world c.sweep-moved.new.slots.items =
-    record { ended = swept.ended; told = c.look.ensures.ended swept.ended swept.told; going = swept.going } in
+    record { ended = swept.ended; told = c.look.ensures.ended swept.ended swept.told; going = swept.going; in_time = swept.in_time } in
+    let asked = c.sweep-moved.ensures.in_turn in
+    let looks : g.L.Listener.looks c.look.new.self ≡ g.L.Listener.looks c.admit_next.new.listener + 1 = search rules in
     record {
       looks = search rules;
       filled = search rules;
@@ -99,6 +106,7 @@ loop-preserved g c =
       few = search rules;
       count = search rules;
       at_once = search rules;
+      asked = subst (λ (n : ℕ). WereAsked c.args.idle n c.sweep-moved.new.slots.items) (sym looks) asked;
       going = subst (λ (xs : List Ends). GoesOn (g.L.Listener.ended c.look.new.self) acting c.args.broker.now.served c.args.idle before xs c.sweep-moved.new.broker.world c.sweep-moved.new.slots.items) (sym came)
           (subst (λ (s : Served). GoesOn (g.L.Listener.ended c.look.new.self) acting s c.args.idle before (g.L.Listener.came c.admit_next.new.listener) c.sweep-moved.new.broker.world c.sweep-moved.new.slots.items)
           (c.admit_next.ensures.same ∙ c.loop.invariant.served) goes);

@@ -1,6 +1,6 @@
 use Rattle.std.proofs.Common.{◌≡◌, ◌≤◌, ◌<◌, length, max}
 use Rattle.broker_answers.specs.Servants.{acts}
-use Rattle.event_loop.specs.inner.Going.{GoesOn}
+use Rattle.event_loop.specs.inner.Going.{GoesOn, WereAsked}
 use Rattle.event_loop.proofs.serving.serve_at_once.Given as goal
 
 abbrev pub invariant-loop : goal.invariant-loop
@@ -16,6 +16,7 @@ invariant-loop g l = record {
   few : length l.slots.items ≤ l.progress.at_once;
   count : l.progress.count ≡ l.count;
   at_once : l.progress.at_once ≡ l.at_once;
+  asked : WereAsked l.idle (g.L.Listener.looks l.listener) l.slots.items;
   going : GoesOn (g.L.Listener.ended l.listener) (acts g.S.Servant.says g.S.Servant.after) l.fn.broker.served l.idle l.fn.broker.world.servant
       (g.L.Listener.came l.listener) l.broker.world l.slots.items;
 }

@@ -1,6 +1,6 @@
-use Rattle.std.proofs.Common.{◌≡◌, ◌≤◌, ◌<◌, ◌-◌, length}
+use Rattle.std.proofs.Common.{◌≡◌, ◌≤◌, ◌<◌, ◌+◌, ◌-◌, drop, length, take}
 use Rattle.broker_answers.specs.Servants.{acts}
-use Rattle.event_loop.specs.inner.Going.{GoesOn}
+use Rattle.event_loop.specs.inner.Going.{GoesOn, WereAsked}
 use Rattle.event_loop.proofs.sweep.sweep.Given as goal
 
 abbrev pub invariant-loop-at : goal.invariant-loop-at
@@ -13,6 +13,8 @@ invariant-loop-at g l = record {
   came : g.L.Listener.came l.listener ≡ g.L.Listener.came l.fn.listener;
   looks : g.L.Listener.looks l.listener ≡ g.L.Listener.looks l.fn.listener;
   served : l.broker.served ≡ l.fn.broker.served;
+  in_turn : WereAsked l.idle (g.L.Listener.looks l.fn.listener + 1) (take l.at l.slots.items);
+  asked : WereAsked l.idle (g.L.Listener.looks l.fn.listener) (drop l.at l.slots.items);
   fewer : length l.slots.items ≤ length l.fn.slots.items;
   going : (before : g.row.S.Denot)
       → GoesOn (g.L.Listener.ended l.fn.listener) (acts g.S.Servant.says g.S.Servant.after) l.fn.broker.served l.idle before (g.L.Listener.came l.fn.listener) l.fn.broker.world l.fn.slots.items

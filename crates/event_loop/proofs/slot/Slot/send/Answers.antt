@@ -11,5 +11,8 @@ returns-in-Ok-Some g c =
       waiting = search rules;
       left = search rules;
       written = search rules;
+      trace = search rules;
+      waits = search rules;
+      still = search rules;
       failed = search rules;
     }
