@@ -8,4 +8,10 @@ pub mod SeenUses
 pub mod NamesWritten
 pub mod Decoded
 pub mod SkimLaws
+pub mod OctetRuns
+pub mod PassLaws
+pub mod PassedLists
+pub mod PassedFiles
+pub mod FormLaws
+pub mod StopLaws
 pub mod WorkedFiles

@@ -26,7 +26,7 @@ nothing_so_far n f (Some octets) = record { so_far = refl }
 nothing_so_far n f None = record { so_far = tt }
 
 -- one more at the end
-each_push : {A : Type 0} (f : A → Option (List ℕ)) (xs : List A) (x : A) (q : Option (List ℕ))
+pub each_push : {A : Type 0} (f : A → Option (List ℕ)) (xs : List A) (x : A) (q : Option (List ℕ))
     → spelled_each f (xs ++ x ∷ []) ++? q ≡ spelled_each f xs ++? (f x ++? q)
 each_push f [] x q = ap (λ o. (f x ++? o) ++? q) refl ∙ joins_assoc (f x) (Some []) q ∙ ap (λ o. f x ++? o) (nothing_before q) ∙ sym (nothing_before (f x ++? q))
 each_push f (y ∷ xs) x q =
@@ -45,7 +45,7 @@ no_more f code (d ∷ done) (x ∷ xs) mid rest octets l e ex none =
     let same = code.one d x p.0 q.0 octets p.2 q.2 in
     no_more f code done xs mid rest p.0 (omega arith) p.1 (q.1 ∙ ap Some (sym same.1)) none
 
-no_run : {A : Type 0} (n : ℕ) (f : A → Option (List ℕ)) → IsCode f → (done : List A) (mid octets : List ℕ) → length done < n
+pub no_run : {A : Type 0} (n : ℕ) (f : A → Option (List ℕ)) → IsCode f → (done : List A) (mid octets : List ℕ) → length done < n
     → spelled_each f done ++? Some mid ≡ Some octets → BeginsWithNone f mid → BeginsWithNone (spelled_run n f) octets
 no_run n f code done mid octets l e none = λ xs rest ex.
     let p = run_at n f xs rest octets ex in
@@ -82,7 +82,7 @@ all_read n f done None None l s = record { reads = tt }
 -- ---- a count and so many
 
 -- where so many aren't behind their count, no list is
-no_list : {A : Type 0} (f : A → Option (List ℕ)) (n : ℕ) (mid octets : List ℕ) → spelled_word n ++? Some mid ≡ Some octets
+pub no_list : {A : Type 0} (f : A → Option (List ℕ)) (n : ℕ) (mid octets : List ℕ) → spelled_word n ++? Some mid ≡ Some octets
     → BeginsWithNone (spelled_run n f) mid → BeginsWithNone (spelled_list f) octets
 no_list f n mid octets e none = λ xs rest ex.
     let p = parted (spelled_word (length xs)) (spelled_each f xs) (Some rest) octets ex in

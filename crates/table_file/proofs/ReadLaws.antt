@@ -1,10 +1,8 @@
 -- Parts that are read one behind the other.
 use Rattle.std.proofs.Common.{◌≡◌, ℕ, ◌<◌, ◌≤◌, ◌+◌, List, ◌++◌, length, length-append, Option, Some, None, Result, Ok, Err, sym, ap, ◌∙◌, arith}
-use Rattle.std.specs.Bool.{OnFalse}
 use Rattle.std.specs.Prelude.{IfSome}
 use Rattle.std.specs.Fmt.{◌++?◌}
 use Rattle.marshal_program.specs.declared.fault.TableFault.{TableFault}
-use Rattle.marshal_program.specs.declared.fault.TableFault.TheVariants.{NoMemory}
 use Rattle.table_file.specs.Octets.{spelled_pair}
 use Rattle.table_file.specs.inner.Reading.{BeginsWithNone, Reads, Takes, beside}
 use Rattle.table_file.specs.Refusal.{wants_memory}

@@ -19,7 +19,7 @@ made make (Err fault) = Err fault
 module _ {A F : Type 0} {tagged : A → Tagged} {tag : ℕ} {fields : F → Option (List ℕ)} {make : F → A}
     (kind : IsKind tagged tag fields make) where
   -- where the fields of a kind aren't behind its tag, nothing is
-  no_fields : (mid octets : List ℕ) → octets ≡ tag ∷ mid → BeginsWithNone fields mid
+  pub no_fields : (mid octets : List ℕ) → octets ≡ tag ∷ mid → BeginsWithNone fields mid
       → BeginsWithNone (λ a. spelled_tagged (tagged a)) octets
   no_fields mid octets front none = λ a rest e.
       let x = of_kind kind a rest mid (e ∙ ap Some front) in

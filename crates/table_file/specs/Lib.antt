@@ -3,4 +3,5 @@ pub mod Spelling
 pub mod Table
 pub mod TableSpelling
 pub mod Refusal
+pub mod Stops
 pub mod inner

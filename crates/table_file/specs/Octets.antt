@@ -1,6 +1,5 @@
 -- What a table file is made of: octets, words, labels, flags, texts and lists. Each definition is a function from what
--- is
--- spelled to its octets; it is None for what has no spelling. `a ++? b` is the one behind the other, where both are.
+-- is spelled to its octets; it is None for what has no spelling. `a ++? b` is the one behind the other, where both are.
 use Rattle.std.specs.Prelude.{ℕ, ◌^◌, ℤ, pos, negsuc, Bool, List, [], ◌∷◌, length, Option, Some, None, nat_lt, ◌==◌, if◌then◌else◌}
 use Rattle.std.specs.Bool.{then_some}
 use Rattle.std.specs.Fmt.{◌++?◌}

@@ -10,6 +10,9 @@ pub mod InstrCode
 pub mod PartCodes
 pub mod TableCodes
 pub mod Reading
+pub mod Passing
+pub mod Ones
 pub mod Decoding
 pub mod Skimming
+pub mod Forms
 pub mod Seen

@@ -1,18 +1,21 @@
 //! Instructions of a routine.
 
-ghost use Rattle.std.specs.Prelude.{◌≤◌, ℕ, List, [], ◌∷◌, Option};
+ghost use Rattle.std.specs.Prelude.{◌≤◌, ◌<◌, ℕ, List, [], ◌∷◌, Option};
 ghost use Rattle.std.specs.Fmt.{◌++?◌};
 ghost use Rattle.table_file.specs.Octets.{spelled_list, spelled_maybe};
 ghost use Rattle.table_file.specs.Spelling.{spelled_arm, spelled_disc, spelled_instr};
+ghost use Rattle.table_file.specs.inner.Passing.{Passes};
 ghost use Rattle.table_file.specs.inner.Reading.{Reads, Takes, Writes};
 
 use crate::cursor::Cursor;
 use crate::part::Part;
+use crate::tail::Tail;
 use marshal_program::{Disc, Instr, TableFault};
 use type_graph::{Arms, Width};
 
 impl Part for Disc {
     ghost use Rattle.table_file.specs.inner.DiscCode.{disc_code};
+    ghost use Rattle.table_file.specs.inner.Ones.{one_disc};
 
     ghost spelled = { spelled_disc };
 
@@ -40,7 +43,19 @@ impl Part for Disc {
         }
     }
 
+    fn pass(tail: &mut Tail<'_>) -> bool {
+        match tail.below(4) {
+            Some(0) => true,
+            Some(1) => true,
+            Some(2) => <(Width, bool)>::pass(tail),
+            Some(_) => u32::pass(tail),
+            None => false,
+        }
+    }
+
     ghost is_code = { disc_code };
+
+    ghost has_one = { one_disc };
 }
 
 /// Puts what a switch says behind what was written before.
@@ -92,9 +107,24 @@ fn read_naming(tag: u8, cursor: &mut Cursor<'_>) -> Result<Instr, TableFault>
     }
 }
 
+/// Passes what stands behind the tag of an instruction that names routines.
+fn pass_naming(tag: u8, tail: &mut Tail<'_>) -> bool
+    requires naming { 9 ≤ tag }
+    requires known { tag < 13 }
+    ensures { Passes spelled_instr result (tag ∷ tail.old) tail.new }
+{
+    match tag {
+        9 => <(u32, (Width, u32))>::pass(tail),
+        10 => <(u32, u32)>::pass(tail),
+        11 => u32::pass(tail),
+        _ => <(Disc, (Arms, Option<u32>))>::pass(tail),
+    }
+}
+
 impl Part for Instr {
     ghost use Rattle.table_file.specs.Spelling.{spelled_instr};
     ghost use Rattle.table_file.specs.inner.InstrCode.{instr_code};
+    ghost use Rattle.table_file.specs.inner.Ones.{one_instr};
 
     ghost spelled = { spelled_instr };
 
@@ -170,5 +200,23 @@ impl Part for Instr {
         }
     }
 
+    fn pass(tail: &mut Tail<'_>) -> bool {
+        match tail.below(13) {
+            Some(0) => Width::pass(tail),
+            Some(1) => u32::pass(tail),
+            Some(2) => <(Width, u32)>::pass(tail),
+            Some(3) => u32::pass(tail),
+            Some(4) => u32::pass(tail),
+            Some(5) => u32::pass(tail),
+            Some(6) => u32::pass(tail),
+            Some(7) => u32::pass(tail),
+            Some(8) => <(Width, (Width, u32))>::pass(tail),
+            Some(tag) => pass_naming(tag, tail),
+            None => false,
+        }
+    }
+
     ghost is_code = { instr_code };
+
+    ghost has_one = { one_instr };
 }

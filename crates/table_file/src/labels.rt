@@ -8,6 +8,7 @@ ghost use Rattle.table_file.specs.Octets.{spelled_label};
 
 use crate::cursor::Cursor;
 use crate::part::Part;
+use crate::tail::Tail;
 use marshal_program::TableFault;
 
 /// The number of which these are the octets, the highest first.
@@ -53,6 +54,7 @@ fn octets_of_label(label: i128) -> [u8; 16]
 impl Part for i128 {
     ghost use Rattle.table_file.specs.Octets.{spelled_label};
     ghost use Rattle.table_file.specs.inner.LabelCode.{label_code};
+    ghost use Rattle.table_file.specs.inner.Ones.{one_label};
 
     ghost spelled = { spelled_label };
 
@@ -66,5 +68,11 @@ impl Part for i128 {
         Ok(())
     }
 
+    fn pass(tail: &mut Tail<'_>) -> bool {
+        tail.skip(16)
+    }
+
     ghost is_code = { label_code };
+
+    ghost has_one = { one_label };
 }

@@ -1,6 +1,7 @@
-//! Laws over the spelling of tables. The functions do nothing: each contract is the law.
+//! Laws over the spelling of tables, and where octets stop being one. The functions do nothing: each contract is the law.
 
 ghost use Rattle.std.specs.Prelude.{◌≡◌, ℕ, List};
+ghost use Rattle.table_file.specs.Stops.{StopsAt};
 ghost use Rattle.table_file.specs.Table.{TableParts, IsTable};
 ghost use Rattle.table_file.specs.TableSpelling.{Spells, SpellsOld};
 
@@ -25,4 +26,9 @@ pub fn old_octets_spell_one_table()
 /// No list of octets is of both versions.
 pub fn octets_are_of_one_version()
     ensures { (table other : TableParts) (octets : List ℕ) → Spells table octets → SpellsOld other octets → ⊥ }
+{}
+
+/// Octets stop being those of a table file at one place at most.
+pub fn stop_is_one()
+    ensures { (octets : List ℕ) (at other : ℕ) → StopsAt octets at → StopsAt octets other → at ≡ other }
 {}

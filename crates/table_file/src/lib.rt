@@ -15,11 +15,14 @@ mod part;
 mod routines;
 mod signatures;
 mod skim;
+mod stop;
 mod table;
+mod tail;
 mod texts;
 mod uses;
 mod whole;
 
 pub use decode::decode_table;
 pub use encode::encode_table;
+pub use stop::stop_of;
 pub use table::{Table, Which};

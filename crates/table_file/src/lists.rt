@@ -2,11 +2,13 @@
 
 ghost use Rattle.std.specs.Prelude.{◌≡◌, ℕ, List, IfOk, IfErr};
 ghost use Rattle.table_file.specs.Octets.{spelled_each, spelled_list, spelled_run, spelled_word};
+ghost use Rattle.table_file.specs.inner.Passing.{Passes, PassesCounted};
 ghost use Rattle.table_file.specs.inner.Reading.{Reads, Writes};
 ghost use Rattle.table_file.specs.inner.Skimming.{IsRunSize, IsSize, Skims};
 
 use crate::cursor::Cursor;
 use crate::part::Part;
+use crate::tail::Tail;
 use marshal_program::TableFault;
 use type_graph::Items;
 
@@ -71,6 +73,33 @@ pub(crate) fn skim_list<T: Part>(cursor: &mut Cursor<'_>) -> Result<Size, TableF
     }
 }
 
+/// Passes so many parts.
+pub(crate) fn pass_run<T: Part>(tail: &mut Tail<'_>, count: usize) -> bool
+    ensures { Passes (spelled_run count T.spelled) result tail.old tail.new }
+{
+    'items: for place in 0..count {
+        if !T::pass(tail) {
+            return false;
+        }
+    }
+    true
+}
+
+/// Passes a list, and tells how long it is.
+pub(crate) fn pass_counted<T: Part>(tail: &mut Tail<'_>) -> Option<usize>
+    ensures { PassesCounted T.spelled result tail.old tail.new }
+{
+    let Some(count) = tail.word() else {
+        return None;
+    };
+    let count = count as usize;
+    if pass_run::<T>(tail, count) {
+        Some(count)
+    } else {
+        None
+    }
+}
+
 /// Puts parts behind what was written before.
 pub(crate) fn write_each<T: Part>(items: &[T], out: &mut Vec<u8>) -> Result<(), TableFault>
     ensures { Writes (spelled_each T.spelled items.now) result out.old.items out.new.items }
@@ -103,6 +132,7 @@ impl<T: Part> Part for Items<T> {
     ghost use Rattle.std.specs.Prelude.{length};
     ghost use Rattle.table_file.specs.Octets.{spelled_list};
     ghost use Rattle.table_file.specs.inner.ListCodes.{list_code};
+    ghost use Rattle.table_file.specs.inner.Ones.{one_list};
 
     ghost spelled = { spelled_list T.spelled };
 
@@ -124,5 +154,11 @@ impl<T: Part> Part for Items<T> {
         write_list(self.as_slice(), out)
     }
 
+    fn pass(tail: &mut Tail<'_>) -> bool {
+        pass_counted::<T>(tail).is_some()
+    }
+
     ghost is_code = { list_code T.spelled T.is_code };
+
+    ghost has_one = { one_list T.spelled };
 }

@@ -5,6 +5,7 @@ ghost use Rattle.type_graph.specs.GraphRules.{members_in};
 
 use crate::cursor::Cursor;
 use crate::part::Part;
+use crate::tail::Tail;
 use marshal_program::TableFault;
 use type_graph::{Arms, Members, Node, Width};
 
@@ -23,6 +24,7 @@ impl Part for Node {
     ghost use Rattle.type_graph.specs.GraphRules.{members_in};
     ghost use Rattle.table_file.specs.Spelling.{spelled_node};
     ghost use Rattle.table_file.specs.inner.NodeCode.{node_code};
+    ghost use Rattle.table_file.specs.inner.Ones.{one_node};
 
     ghost spelled = { spelled_node };
 
@@ -107,5 +109,24 @@ impl Part for Node {
         }
     }
 
+    fn pass(tail: &mut Tail<'_>) -> bool {
+        match tail.below(11) {
+            Some(0) => <(Width, bool)>::pass(tail),
+            Some(1) => true,
+            Some(2) => true,
+            Some(3) => true,
+            Some(4) => u32::pass(tail),
+            Some(5) => u32::pass(tail),
+            Some(6) => <(u32, u32)>::pass(tail),
+            Some(7) => <(u32, u32)>::pass(tail),
+            Some(8) => Members::pass(tail),
+            Some(9) => <(u32, (Arms, Option<u32>))>::pass(tail),
+            Some(_) => Members::pass(tail),
+            None => false,
+        }
+    }
+
     ghost is_code = { node_code };
+
+    ghost has_one = { one_node };
 }

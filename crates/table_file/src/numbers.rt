@@ -6,12 +6,14 @@ ghost use Rattle.type_graph.specs.Words.{plain_octets};
 
 use crate::cursor::Cursor;
 use crate::part::Part;
+use crate::tail::Tail;
 use marshal_program::TableFault;
 use type_graph::Width;
 
 impl Part for u8 {
     ghost use Rattle.table_file.specs.Octets.{spelled_octet};
     ghost use Rattle.table_file.specs.inner.Codes.{octet_code};
+    ghost use Rattle.table_file.specs.inner.Ones.{one_octet};
 
     ghost spelled = { spelled_octet };
 
@@ -24,11 +26,17 @@ impl Part for u8 {
         Ok(())
     }
 
+    fn pass(tail: &mut Tail<'_>) -> bool {
+        tail.skip(1)
+    }
+
     ghost is_code = { octet_code };
+
+    ghost has_one = { one_octet };
 }
 
 /// The number of which these are the octets, the highest first.
-fn word_at(word: &[u8]) -> u32
+pub(crate) fn word_at(word: &[u8]) -> u32
     requires { length word.now ≡ 4 }
     ensures value { plain_octets Big 4 result ≡ word.now }
     ensures small { result < 2 ^ 32 }
@@ -39,6 +47,7 @@ fn word_at(word: &[u8]) -> u32
 impl Part for u32 {
     ghost use Rattle.table_file.specs.Octets.{spelled_word};
     ghost use Rattle.table_file.specs.inner.Codes.{word_code};
+    ghost use Rattle.table_file.specs.inner.Ones.{one_word};
 
     ghost spelled = { spelled_word };
 
@@ -52,12 +61,19 @@ impl Part for u32 {
         Ok(())
     }
 
+    fn pass(tail: &mut Tail<'_>) -> bool {
+        tail.skip(4)
+    }
+
     ghost is_code = { word_code };
+
+    ghost has_one = { one_word };
 }
 
 impl Part for bool {
     ghost use Rattle.table_file.specs.Octets.{spelled_flag};
     ghost use Rattle.table_file.specs.inner.Codes.{flag_code};
+    ghost use Rattle.table_file.specs.inner.Ones.{one_flag};
 
     ghost spelled = { spelled_flag };
 
@@ -74,12 +90,19 @@ impl Part for bool {
         Ok(())
     }
 
+    fn pass(tail: &mut Tail<'_>) -> bool {
+        tail.one_of(&[0, 1]).is_some()
+    }
+
     ghost is_code = { flag_code };
+
+    ghost has_one = { one_flag };
 }
 
 impl Part for Width {
     ghost use Rattle.table_file.specs.Spelling.{spelled_width};
     ghost use Rattle.table_file.specs.inner.Codes.{width_code};
+    ghost use Rattle.table_file.specs.inner.Ones.{one_width};
 
     ghost spelled = { spelled_width };
 
@@ -101,12 +124,19 @@ impl Part for Width {
         Ok(())
     }
 
+    fn pass(tail: &mut Tail<'_>) -> bool {
+        tail.one_of(&[1, 2, 4, 8]).is_some()
+    }
+
     ghost is_code = { width_code };
+
+    ghost has_one = { one_width };
 }
 
 impl Part for Option<u32> {
     ghost use Rattle.table_file.specs.Octets.{spelled_maybe};
     ghost use Rattle.table_file.specs.inner.MaybeCode.{maybe_code};
+    ghost use Rattle.table_file.specs.inner.Ones.{one_maybe};
 
     ghost spelled = { spelled_maybe };
 
@@ -125,5 +155,15 @@ impl Part for Option<u32> {
         }
     }
 
+    fn pass(tail: &mut Tail<'_>) -> bool {
+        match tail.below(2) {
+            Some(0) => true,
+            Some(_) => u32::pass(tail),
+            None => false,
+        }
+    }
+
     ghost is_code = { maybe_code };
+
+    ghost has_one = { one_maybe };
 }

@@ -5,8 +5,10 @@ ghost use Rattle.table_file.specs.Octets.{spelled_pair};
 ghost use Rattle.table_file.specs.inner.Reading.{Reads, Writes};
 ghost use Rattle.table_file.specs.inner.Skimming.{IsAtMost, Skims, no_weight, weight_both};
 ghost use Rattle.table_file.specs.inner.Codes.{IsCode};
+ghost use Rattle.table_file.specs.inner.Passing.{HasOne, Passes};
 
 use crate::cursor::Cursor;
+use crate::tail::Tail;
 use marshal_program::TableFault;
 
 /// How a part is read and written.
@@ -33,11 +35,19 @@ pub(crate) trait Part: Sized + Drop {
     fn write(&self, out: &mut Vec<u8>) -> Result<(), TableFault>
         ensures { Writes (spelled self.now) result out.old.items out.new.items };
 
+    /// Passes the part. Where it isn't there, what is left begins with the first octet with which no
+    /// part goes on, or is nothing.
+    fn pass(tail: &mut Tail<'_>) -> bool
+        ensures { Passes spelled result tail.old tail.new };
+
     ghost is_code: { IsCode spelled };
+
+    ghost has_one: { HasOne spelled };
 }
 
 impl<A: Part, B: Part> Part for (A, B) {
     ghost use Rattle.table_file.specs.inner.Codes.{pair_code};
+    ghost use Rattle.table_file.specs.inner.Ones.{one_pair};
 
     ghost spelled = { spelled_pair A.spelled B.spelled };
 
@@ -60,5 +70,11 @@ impl<A: Part, B: Part> Part for (A, B) {
         self.1.write(out)
     }
 
+    fn pass(tail: &mut Tail<'_>) -> bool {
+        A::pass(tail) && B::pass(tail)
+    }
+
     ghost is_code = { pair_code A.spelled B.spelled A.is_code B.is_code };
+
+    ghost has_one = { one_pair A.spelled B.spelled A.has_one B.has_one };
 }

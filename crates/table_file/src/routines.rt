@@ -8,6 +8,7 @@ ghost use Rattle.table_file.specs.inner.Reading.{Writes};
 
 use crate::cursor::Cursor;
 use crate::part::Part;
+use crate::tail::Tail;
 use marshal_program::{Code, Routine, TableFault};
 
 /// The sets of these octets.
@@ -32,6 +33,7 @@ fn write_sets(sets: &[u8], out: &mut Vec<u8>) -> Result<(), TableFault>
 impl Part for [u8; 8] {
     ghost use Rattle.table_file.specs.Octets.{spelled_octet, spelled_run};
     ghost use Rattle.table_file.specs.inner.PartCodes.{exits_code};
+    ghost use Rattle.table_file.specs.inner.Ones.{one_exits};
 
     ghost spelled = { spelled_run 8 spelled_octet };
 
@@ -44,7 +46,13 @@ impl Part for [u8; 8] {
         write_sets(self.as_slice(), out)
     }
 
+    fn pass(tail: &mut Tail<'_>) -> bool {
+        tail.skip(8)
+    }
+
     ghost is_code = { exits_code };
+
+    ghost has_one = { one_exits };
 }
 
 /// Puts the exits, the rank and the code behind what was written before.
@@ -60,6 +68,7 @@ fn write_body(exits: &[u8; 8], rank: u32, code: &Code, out: &mut Vec<u8>) -> Res
 impl Part for Routine {
     ghost use Rattle.table_file.specs.Spelling.{spelled_routine};
     ghost use Rattle.table_file.specs.inner.PartCodes.{routine_code};
+    ghost use Rattle.table_file.specs.inner.Ones.{one_routine};
     ghost use Rattle.table_file.specs.inner.Skimming.{instrs_in};
 
     ghost spelled = { spelled_routine };
@@ -89,5 +98,11 @@ impl Part for Routine {
         write_body(&self.exits, self.rank, &self.code, out)
     }
 
+    fn pass(tail: &mut Tail<'_>) -> bool {
+        <(u32, (u8, ([u8; 8], (u32, Code))))>::pass(tail)
+    }
+
     ghost is_code = { routine_code };
+
+    ghost has_one = { one_routine };
 }

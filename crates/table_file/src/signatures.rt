@@ -6,6 +6,7 @@ ghost use Rattle.table_file.specs.inner.Reading.{Writes};
 
 use crate::cursor::Cursor;
 use crate::part::Part;
+use crate::tail::Tail;
 use marshal_program::TableFault;
 use type_graph::Items;
 use type_model::{Exception, Interface, Name, Operation};
@@ -13,6 +14,7 @@ use type_model::{Exception, Interface, Name, Operation};
 impl Part for Interface {
     ghost use Rattle.table_file.specs.Spelling.{spelled_interface};
     ghost use Rattle.table_file.specs.inner.PartCodes.{interface_code};
+    ghost use Rattle.table_file.specs.inner.Ones.{one_interface};
 
     ghost spelled = { spelled_interface };
 
@@ -42,12 +44,19 @@ impl Part for Interface {
         self.operations.write(out)
     }
 
+    fn pass(tail: &mut Tail<'_>) -> bool {
+        <(Name, (Name, (Items<Name>, Items<u32>)))>::pass(tail)
+    }
+
     ghost is_code = { interface_code };
+
+    ghost has_one = { one_interface };
 }
 
 impl Part for Operation {
     ghost use Rattle.table_file.specs.Spelling.{spelled_operation};
     ghost use Rattle.table_file.specs.inner.PartCodes.{operation_code};
+    ghost use Rattle.table_file.specs.inner.Ones.{one_operation};
 
     ghost spelled = { spelled_operation };
 
@@ -71,7 +80,13 @@ impl Part for Operation {
         write_frames(self.request, self.reply, &self.exceptions, out)
     }
 
+    fn pass(tail: &mut Tail<'_>) -> bool {
+        <(Name, (bool, (u32, (u32, Items<u32>))))>::pass(tail)
+    }
+
     ghost is_code = { operation_code };
+
+    ghost has_one = { one_operation };
 }
 
 /// Puts the frames and exceptions of an operation behind what was written before.
@@ -92,6 +107,7 @@ fn write_frames(
 impl Part for Exception {
     ghost use Rattle.table_file.specs.Spelling.{spelled_exception};
     ghost use Rattle.table_file.specs.inner.PartCodes.{exception_code};
+    ghost use Rattle.table_file.specs.inner.Ones.{one_exception};
 
     ghost spelled = { spelled_exception };
 
@@ -106,5 +122,11 @@ impl Part for Exception {
         self.frame.write(out)
     }
 
+    fn pass(tail: &mut Tail<'_>) -> bool {
+        <(Name, (Name, u32))>::pass(tail)
+    }
+
     ghost is_code = { exception_code };
+
+    ghost has_one = { one_exception };
 }

@@ -4,6 +4,7 @@ ghost use Rattle.std.specs.Prelude.{◌≡◌, length, true, false, nat_lt, IfOk
 ghost use Rattle.std.specs.Bool.{OnFalse};
 ghost use Rattle.std.specs.List.{list_all};
 ghost use Rattle.table_file.specs.Octets.{spelled_ascii, spelled_each, spelled_run, spelled_text};
+ghost use Rattle.table_file.specs.inner.Passing.{Passes};
 ghost use Rattle.table_file.specs.inner.Reading.{Reads, Writes};
 ghost use Rattle.table_file.specs.inner.Skimming.{IsAtMost, Skims, no_weight};
 ghost use Rattle.table_file.specs.Refusal.{wants_memory};
@@ -11,6 +12,7 @@ ghost use Rattle.table_file.specs.Refusal.{wants_memory};
 use crate::cursor::Cursor;
 use crate::lists::write_count;
 use crate::part::Part;
+use crate::tail::Tail;
 use marshal_program::TableFault;
 use std::alloc::Global;
 use std::str;
@@ -57,6 +59,18 @@ fn skim_name(cursor: &mut Cursor<'_>, count: usize) -> Result<usize, TableFault>
     Ok(0)
 }
 
+/// Passes so many octets of ASCII.
+fn pass_ascii(tail: &mut Tail<'_>, count: usize) -> bool
+    ensures { Passes (spelled_run count spelled_ascii) result tail.old tail.new }
+{
+    'octets: for place in 0..count {
+        if tail.below(128).is_none() {
+            return false;
+        }
+    }
+    true
+}
+
 /// Puts octets, which have to be ASCII, behind what was written before.
 fn write_ascii(octets: &[u8], out: &mut Vec<u8>) -> Result<(), TableFault>
     ensures { Writes (spelled_each spelled_ascii octets.now) result out.old.items out.new.items }
@@ -78,6 +92,7 @@ pub(crate) fn write_text(text: &str, out: &mut Vec<u8>) -> Result<(), TableFault
 
 impl Part for Name {
     ghost use Rattle.table_file.specs.inner.ListCodes.{text_code};
+    ghost use Rattle.table_file.specs.inner.Ones.{one_list};
 
     ghost spelled = { spelled_text };
 
@@ -95,5 +110,14 @@ impl Part for Name {
         write_text(self.as_str(), out)
     }
 
+    fn pass(tail: &mut Tail<'_>) -> bool {
+        match tail.word() {
+            Some(count) => pass_ascii(tail, count as usize),
+            None => false,
+        }
+    }
+
     ghost is_code = { text_code };
+
+    ghost has_one = { one_list spelled_ascii };
 }

@@ -8,12 +8,14 @@ ghost use Rattle.table_file.specs.inner.Seen.{AllNone};
 use crate::cursor::Cursor;
 use crate::part::Part;
 use crate::table::Which;
+use crate::tail::Tail;
 use marshal_program::TableFault;
 use type_model::NameTable;
 
 impl Part for Which {
     ghost use Rattle.table_file.specs.TableSpelling.{spelled_which};
     ghost use Rattle.table_file.specs.inner.TableCodes.{which_code};
+    ghost use Rattle.table_file.specs.inner.Ones.{one_which};
 
     ghost spelled = { spelled_which };
 
@@ -29,7 +31,13 @@ impl Part for Which {
         self.number().write(out)
     }
 
+    fn pass(tail: &mut Tail<'_>) -> bool {
+        tail.one_of(&[0, 1]).is_some()
+    }
+
     ghost is_code = { which_code };
+
+    ghost has_one = { one_which };
 }
 
 /// How many nodes a graph may have.

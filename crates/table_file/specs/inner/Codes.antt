@@ -46,15 +46,15 @@ fixed_code spelled k some long same = record {
   some = λ a octets e. let l = long a octets e in omega (arith, l, some);
 }
 
--- a code and then a code
-pub pair_code : {A B : Type 0} (f : A → Option (List ℕ)) (g : B → Option (List ℕ)) → IsCode f → IsCode g
+-- a code, and behind it one thing at most
+pub code_then : {A B : Type 0} (f : A → Option (List ℕ)) (g : B → Option (List ℕ)) → IsCode f → IsOne g
     → IsCode (spelled_pair f g)
-pair_code {A} {B} f g fs gs = record {
+code_then {A} {B} f g fs one = record {
   one = λ a b x y octets ea eb.
       let pa = parted (f a.0) (g a.1) (Some x) octets ea in
       let pb = parted (f b.0) (g b.1) (Some y) octets eb in
       let first = fs.one a.0 b.0 pa.0 pb.0 octets pa.2 pb.2 in
-      let second = gs.one a.1 b.1 x y pb.0 (pa.1 ∙ ap Some first.1) pb.1 in
+      let second = one a.1 b.1 x y pb.0 (pa.1 ∙ ap Some first.1) pb.1 in
       let same : a ≡ b = ap₂ (λ (i : A) (j : B). (i, j)) first.0 second.0 in
       (same, second.1);
   some = λ a octets e.
@@ -64,6 +64,11 @@ pair_code {A} {B} f g fs gs = record {
       let long : length (p.0 ++ p.1) ≡ length p.0 + length p.1 = length-append p.0 p.1 in
       omega (arith, l, long, h);
 }
+
+-- a code and then a code
+pub pair_code : {A B : Type 0} (f : A → Option (List ℕ)) (g : B → Option (List ℕ)) → IsCode f → IsCode g
+    → IsCode (spelled_pair f g)
+pair_code f g fs gs = code_then f g fs gs.one
 
 -- a test on one octet
 one_octet_code : (test : ℕ → Bool) → IsCode (λ n. then_some (test n) (n ∷ []))

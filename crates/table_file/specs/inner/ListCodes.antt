@@ -5,7 +5,7 @@ use Rattle.std.proofs.lemmas.Bool.{eqb-true, eq-eqb}
 use Rattle.std.specs.Fmt.{◌++?◌}
 use Rattle.table_file.specs.Octets.{spelled_ascii, spelled_word, spelled_each, spelled_run, spelled_list, spelled_text}
 use Rattle.table_file.specs.inner.Joins.{split, parted}
-use Rattle.table_file.specs.inner.Codes.{IsCode, word_code, ascii_code}
+use Rattle.table_file.specs.inner.Codes.{IsCode, IsOne, word_code, ascii_code}
 
 -- two lists of one length
 pub one_each : {A : Type 0} (f : A → Option (List ℕ)) → IsCode f → (xs ys : List A) (x y octets : List ℕ)
@@ -50,12 +50,15 @@ pub run_of : {A : Type 0} (n : ℕ) (f : A → Option (List ℕ)) (xs : List A) 
     → spelled_run n f xs ≡ spelled_each f xs
 run_of n f xs e = ap (λ b. cond b (spelled_each f xs) None) (eq-eqb (length xs) n e)
 
+pub run_one : {A : Type 0} (n : ℕ) (f : A → Option (List ℕ)) → IsCode f → IsOne (spelled_run n f)
+run_one n f code a b x y octets ea eb =
+    let pa = run_at n f a x octets ea in
+    let pb = run_at n f b y octets eb in
+    one_each f code a b x y octets (pa.0 ∙ sym pb.0) pa.1 pb.1
+
 pub run_code : {A : Type 0} (n : ℕ) (f : A → Option (List ℕ)) → 0 < n → IsCode f → IsCode (spelled_run n f)
 run_code {A} n f more code = record {
-  one = λ a b x y octets ea eb.
-      let pa = run_at n f a x octets ea in
-      let pb = run_at n f b y octets eb in
-      one_each f code a b x y octets (pa.0 ∙ sym pb.0) pa.1 pb.1;
+  one = run_one n f code;
   some = λ a octets e.
       let p = run_at n f a [] octets (ap (λ o. o ++? Some []) e ∙ ap Some (append-nil octets)) in
       let q = split (spelled_each f a) (Some []) octets p.1 in
