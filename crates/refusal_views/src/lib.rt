@@ -4,7 +4,6 @@
 
 mod known;
 mod parts;
-mod places;
 mod view;
 
 pub use known::table_known;
