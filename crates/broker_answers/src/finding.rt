@@ -11,9 +11,8 @@ ghost use Rattle.broker_answers.specs.inner.FindingSteps.{HasId, IsKnown, IsType
 use crate::exception::SystemException;
 use crate::objects::is_a;
 use giop::{Giop, Request};
-use giop_types::{ID_ARGUMENT, split_octets};
+use giop_types::{ID_ARGUMENT, find_value, split_octets};
 use position_checker::Accepted;
-use program_runner::RunFault;
 use std::alloc::{AllocError, Global};
 use type_model::{Interface, Operation};
 
@@ -58,18 +57,10 @@ pub(crate) fn read_body(
     ensures { IfOk result (λ tape.
         IsReading accepted.now.model.graph (asked_of request.now) node (option_map (λ t. t.items) tape)) }
 {
-    match accepted.read(
-        alloc,
-        node,
-        request.order,
-        request.body_at as u64,
-        request.octets,
-    ) {
-        Ok((tape, _)) => Ok(Some(tape)),
-        Err(fault) => match fault {
-            RunFault::NoMemory => Err(AllocError),
-            _ => Ok(None),
-        },
+    let place = request.body_at as u64;
+    match find_value(accepted, alloc, node, request.order, place, request.octets)? {
+        Some((tape, _)) => Ok(Some(tape)),
+        None => Ok(None),
     }
 }
 
