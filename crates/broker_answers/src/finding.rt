@@ -8,7 +8,7 @@ ghost use Rattle.giop_types.specs.GiopNodes.{giop_nodes, id_argument_node};
 ghost use Rattle.broker_answers.specs.Findings.{IsRead, IsReading, Tells};
 ghost use Rattle.broker_answers.specs.inner.FindingSteps.{HasId, IsKnown, IsTypeAsked, finding_of};
 
-use crate::exception::SystemException;
+use crate::exception::BrokerException;
 use crate::objects::is_a;
 use giop::{Giop, Request};
 use giop_types::{ID_ARGUMENT, find_value, split_octets};
@@ -32,7 +32,7 @@ pub(crate) struct AskedCall<'s> {
 #[derive(Drop)]
 pub(crate) enum Finding<'s> {
     /// Nothing that can be done.
-    Refuses(SystemException),
+    Refuses(BrokerException),
     /// A question that is answered without the servant.
     Tells(bool),
     Calls(AskedCall<'s>),
@@ -89,6 +89,6 @@ pub(crate) fn type_asked<'s>(
 {
     match read_body(alloc, giop.table(), ID_ARGUMENT, request)? {
         Some(tape) => Ok(Finding::Tells(has_type(interface, request, tape.as_slice()))),
-        None => Ok(Finding::Refuses(SystemException::Marshal)),
+        None => Ok(Finding::Refuses(BrokerException::Marshal)),
     }
 }
