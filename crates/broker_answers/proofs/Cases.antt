@@ -4,7 +4,7 @@ use Rattle.type_model.specs.declared.signatures.Interface.{Interface}
 use Rattle.type_model.specs.declared.signatures.Operation.{Operation}
 use Rattle.type_model.specs.ModelRules.{Parts}
 use Rattle.giop_messages.specs.Messages.{Asked}
-use Rattle.broker_answers.specs.declared.exception.SystemException.TheVariants.{BadOperation, Marshal}
+use Rattle.broker_answers.specs.declared.exception.BrokerException.TheVariants.{BadOperation, Marshal}
 use Rattle.broker_answers.specs.Servants.{call_of}
 use Rattle.broker_answers.specs.Objects.{Served, IsNamedOperation, operation_named}
 use Rattle.broker_answers.specs.Findings.{Finding, Refuses, Calls, Finds, AsksType, AsksNoType, NoOperation, NoArguments, ForServant, IsFor, IsOwn, IsRead, IsUnread, is_a_name}

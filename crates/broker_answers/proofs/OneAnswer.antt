@@ -13,8 +13,8 @@ use Rattle.giop_messages.specs.Written.{Given}
 use Rattle.giop_messages.proofs.OneMessage.{says_once}
 use Rattle.type_graph.specs.Value.{NoTree}
 use Rattle.broker_answers.specs.Streams.{Raw}
-use Rattle.broker_answers.specs.declared.exception.SystemException.{SystemException}
-use Rattle.broker_answers.specs.declared.exception.SystemException.TheVariants as raised
+use Rattle.broker_answers.specs.declared.exception.BrokerException.{BrokerException}
+use Rattle.broker_answers.specs.declared.exception.BrokerException.TheVariants as raised
 use Rattle.broker_answers.specs.Servants.{Acting, Call, Said, Done, Raised, NoImplement}
 use Rattle.broker_answers.specs.Objects.{Served, object_with}
 use Rattle.broker_answers.specs.Findings.{Finding, Refuses, Tells, Calls}
@@ -43,7 +43,7 @@ sent_once : (asked : Asked) (reply : Reply) (x y : List ℕ) → ((given : Given
 sent_once asked reply x y rules a b =
     written_once asked.order 1 19 (reply_tree asked.id (number_of reply.status) NoTree) reply.body x y rules a.written b.written
 
-exception_once : (asked : Asked) (e : SystemException) (x y : List ℕ) → IsSent asked (exception_reply e) x
+exception_once : (asked : Asked) (e : BrokerException) (x y : List ℕ) → IsSent asked (exception_reply e) x
     → IsSent asked (exception_reply e) y → x ≡ y
 exception_once asked e x y a b =
     sent_once asked (exception_reply e) x y

@@ -15,7 +15,7 @@ use Rattle.giop_types.specs.TapeParts.{counted}
 use Rattle.giop_types.specs.GiopNodes.{giop_nodes}
 use Rattle.giop_types.proofs.GraphFacts.{giop_is_graph}
 use Rattle.giop_messages.specs.Messages.{Asked}
-use Rattle.broker_answers.specs.declared.exception.SystemException.TheVariants.{ObjectNotExist}
+use Rattle.broker_answers.specs.declared.exception.BrokerException.TheVariants.{ObjectNotExist}
 use Rattle.broker_answers.specs.Servants.{call_of}
 use Rattle.broker_answers.specs.Objects.{Served, object_with, interface_of, is_a}
 use Rattle.broker_answers.specs.Findings.{Finding, Refuses, Tells, Calls, Finds, NoObject, AsksType, AsksNoType, AsksWhetherGone, NoOperation, NoArguments, ForServant, IsFor, IsOwn, IsRead, is_a_name, non_existent_name}

@@ -30,8 +30,8 @@ use Rattle.giop_messages.proofs.OneWritten.{tape_written_once}
 use Rattle.giop.specs.Made.{given}
 use Rattle.giop.specs.Refusal.{IsNotWritten}
 use Rattle.giop.proofs.MadeFacts.{length-head_octets}
-use Rattle.broker_answers.specs.declared.exception.SystemException.{SystemException}
-use Rattle.broker_answers.specs.declared.exception.SystemException.TheVariants as raised
+use Rattle.broker_answers.specs.declared.exception.BrokerException.{BrokerException}
+use Rattle.broker_answers.specs.declared.exception.BrokerException.TheVariants as raised
 use Rattle.broker_answers.specs.Exceptions.{completion, exception_id, exception_tape}
 use Rattle.broker_answers.specs.Replies.{Reply, reply_of, acceptance, exception_reply, truth_number, truth_reply, IsSent, IsUnsendable}
 use Rattle.broker_answers.proofs.Existence.{encodes_there, room}
@@ -172,7 +172,7 @@ letters (o ∷ more) e =
     let q = and_parts (nat_lt 0 o) (nat_lt o 256) p.0 in
     ((ltb-true 0 o q.0, ltb-true o 256 q.1), letters more p.1)
 
-id_text : (e : SystemException) → IsText 0 (exception_id e)
+id_text : (e : BrokerException) → IsText 0 (exception_id e)
 id_text raised.ObjectNotExist = record { in_bound = tt; short = omega arith; octets = letters (exception_id raised.ObjectNotExist) refl }
 id_text raised.BadOperation = record { in_bound = tt; short = omega arith; octets = letters (exception_id raised.BadOperation) refl }
 id_text raised.Marshal = record { in_bound = tt; short = omega arith; octets = letters (exception_id raised.Marshal) refl }
@@ -180,13 +180,13 @@ id_text raised.NoImplement = record { in_bound = tt; short = omega arith; octets
 id_text raised.Unknown = record { in_bound = tt; short = omega arith; octets = letters (exception_id raised.Unknown) refl }
 id_text raised.Internal = record { in_bound = tt; short = omega arith; octets = letters (exception_id raised.Internal) refl }
 
-abbrev exception_tree : SystemException → Tree
+abbrev exception_tree : BrokerException → Tree
 exception_tree e =
     Items
     (AndTree (Bytes (exception_id e))
     (AndTree (Number (pos 0)) (AndTree (Number (pos (completion e))) NoTree)))
 
-completion_below : (e : SystemException) → completion e < 2 ^ 32
+completion_below : (e : BrokerException) → completion e < 2 ^ 32
 completion_below raised.ObjectNotExist = omega arith
 completion_below raised.BadOperation = omega arith
 completion_below raised.Marshal = omega arith
@@ -194,7 +194,7 @@ completion_below raised.NoImplement = omega arith
 completion_below raised.Unknown = omega arith
 completion_below raised.Internal = omega arith
 
-id_short : (e : SystemException) → length (exception_id e) ≤ 100
+id_short : (e : BrokerException) → length (exception_id e) ≤ 100
 id_short raised.ObjectNotExist = omega arith
 id_short raised.BadOperation = omega arith
 id_short raised.Marshal = omega arith
@@ -202,13 +202,13 @@ id_short raised.NoImplement = omega arith
 id_short raised.Unknown = omega arith
 id_short raised.Internal = omega arith
 
-exception_tape_is : (e : SystemException) → exception_tape e ≡ tape_of giop_nodes (node_at giop_nodes 23) (exception_tree e)
+exception_tape_is : (e : BrokerException) → exception_tape e ≡ tape_of giop_nodes (node_at giop_nodes 23) (exception_tree e)
 exception_tape_is e =
     append_assoc (counted (exception_id e)) (word Big Four (pos 0)) (word Big Four (pos (completion e)))
     ∙ ap (λ (w : List ℕ). counted (exception_id e) ++ (word Big Four (pos 0) ++ w))
     (sym (append-nil (word Big Four (pos (completion e)))))
 
-pub exception_there : (asked : Asked) (e : SystemException) → asked.id < 2 ^ 32
+pub exception_there : (asked : Asked) (e : BrokerException) → asked.id < 2 ^ 32
     → IsUnsendable asked (exception_reply e) → ⊥
 exception_there asked e id none =
     let s = body_there asked Systemic giop_nodes 23 (exception_tree e) (exception_tape e) id

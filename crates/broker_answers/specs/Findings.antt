@@ -8,14 +8,14 @@ use Rattle.type_model.specs.declared.signatures.Operation.{Operation}
 use Rattle.giop_types.specs.TapeParts.{counted}
 use Rattle.giop_types.specs.GiopNodes.{giop_nodes, id_argument_node}
 use Rattle.giop_messages.specs.Messages.{Asked}
-use Rattle.broker_answers.specs.declared.exception.SystemException.{SystemException}
-use Rattle.broker_answers.specs.declared.exception.SystemException.TheVariants.{ObjectNotExist, BadOperation, Marshal}
+use Rattle.broker_answers.specs.declared.exception.BrokerException.{BrokerException}
+use Rattle.broker_answers.specs.declared.exception.BrokerException.TheVariants.{ObjectNotExist, BadOperation, Marshal}
 use Rattle.broker_answers.specs.Servants.{Call, call_of}
 use Rattle.broker_answers.specs.Objects.{Served, IsNamedOperation, object_with, interface_of, operation_named, is_a}
 
 pub data Finding : Type 0 where
   -- nothing that can be done
-  Refuses : SystemException → Finding
+  Refuses : BrokerException → Finding
   -- a question that is answered without the servant
   Tells : Bool → Finding
   -- a call of the servant

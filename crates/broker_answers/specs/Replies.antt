@@ -15,8 +15,8 @@ use Rattle.giop_messages.specs.declared.message.ReplyStatus.TheVariants.{NoExcep
 use Rattle.giop_messages.specs.Headers.{reply_tree, number_of}
 use Rattle.giop_messages.specs.Messages.{Asked}
 use Rattle.giop_messages.specs.Written.{Given, IsWritten}
-use Rattle.broker_answers.specs.declared.exception.SystemException.{SystemException}
-use Rattle.broker_answers.specs.declared.exception.SystemException.TheVariants as raised
+use Rattle.broker_answers.specs.declared.exception.BrokerException.{BrokerException}
+use Rattle.broker_answers.specs.declared.exception.BrokerException.TheVariants as raised
 use Rattle.broker_answers.specs.Servants.{Call, Said, Done, Raised, NoImplement}
 use Rattle.broker_answers.specs.Objects.{Served}
 use Rattle.broker_answers.specs.Exceptions.{exception_tape}
@@ -38,7 +38,7 @@ reply_of status graph node tape = record {
 abbrev pub acceptance : Reply
 acceptance = record { status = NoException; body = None }
 
-abbrev pub exception_reply : SystemException → Reply
+abbrev pub exception_reply : BrokerException → Reply
 exception_reply exception = reply_of Systemic giop_nodes system_exception_node (exception_tape exception)
 
 abbrev pub truth_number : Bool → ℕ

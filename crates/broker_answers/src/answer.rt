@@ -9,7 +9,7 @@ ghost use Rattle.broker_answers.specs.Replies.{AnswersRequest};
 ghost use Rattle.broker_answers.specs.Servants.{Call, Said, acts};
 ghost use Rattle.broker_answers.specs.Serving.{MovesRequest};
 
-use crate::exception::SystemException;
+use crate::exception::BrokerException;
 use crate::finding::Finding;
 use crate::reply::Replier;
 use crate::scope::{SyncScope, sync_scope};
@@ -20,7 +20,7 @@ use std::alloc::{AllocError, Global};
 
 impl<'r, 'b> Replier<'r, 'b> {
     /// The answer that nothing can be done.
-    fn refuse(&self, exception: SystemException) -> Result<Vec<u8>, AllocError>
+    fn refuse(&self, exception: BrokerException) -> Result<Vec<u8>, AllocError>
         ensures { IfOk result (λ octets. (served : Served) (says : Call → Said)
             → IsAnswered served (asked_of self.now.request.now) (Refuses exception) says octets.items) }
     {

@@ -6,9 +6,9 @@ ghost use Rattle.broker_answers.specs.Exceptions.{completion as completion_of, e
 use giop_types::push_u32;
 use std::alloc::{AllocError, Global};
 
-/// A standard system exception (ISO/IEC 19500-1).
+/// A standard system exception (ISO/IEC 19500-1) that a broker answers.
 #[derive(Clone, Copy, Debug, PartialEq, Eq)]
-pub enum SystemException {
+pub enum BrokerException {
     /// No object has the key.
     ObjectNotExist,
     /// The interface has no such operation.
@@ -23,18 +23,18 @@ pub enum SystemException {
     Internal,
 }
 
-impl SystemException {
+impl BrokerException {
     /// Its repository id.
     pub fn id(self) -> &'static str
         ensures { result.now ≡ exception_id self }
     {
         match self {
-            SystemException::ObjectNotExist => "IDL:omg.org/CORBA/OBJECT_NOT_EXIST:1.0",
-            SystemException::BadOperation => "IDL:omg.org/CORBA/BAD_OPERATION:1.0",
-            SystemException::Marshal => "IDL:omg.org/CORBA/MARSHAL:1.0",
-            SystemException::NoImplement => "IDL:omg.org/CORBA/NO_IMPLEMENT:1.0",
-            SystemException::Unknown => "IDL:omg.org/CORBA/UNKNOWN:1.0",
-            SystemException::Internal => "IDL:omg.org/CORBA/INTERNAL:1.0",
+            BrokerException::ObjectNotExist => "IDL:omg.org/CORBA/OBJECT_NOT_EXIST:1.0",
+            BrokerException::BadOperation => "IDL:omg.org/CORBA/BAD_OPERATION:1.0",
+            BrokerException::Marshal => "IDL:omg.org/CORBA/MARSHAL:1.0",
+            BrokerException::NoImplement => "IDL:omg.org/CORBA/NO_IMPLEMENT:1.0",
+            BrokerException::Unknown => "IDL:omg.org/CORBA/UNKNOWN:1.0",
+            BrokerException::Internal => "IDL:omg.org/CORBA/INTERNAL:1.0",
         }
     }
 
@@ -43,7 +43,7 @@ impl SystemException {
         ensures { result ≡ completion_of self }
     {
         match self {
-            SystemException::Unknown | SystemException::Internal => 2,
+            BrokerException::Unknown | BrokerException::Internal => 2,
             _ => 1,
         }
     }

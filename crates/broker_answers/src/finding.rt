@@ -8,12 +8,11 @@ ghost use Rattle.giop_types.specs.GiopNodes.{giop_nodes, id_argument_node};
 ghost use Rattle.broker_answers.specs.Findings.{IsRead, IsReading, Tells};
 ghost use Rattle.broker_answers.specs.inner.FindingSteps.{HasId, IsKnown, IsTypeAsked, finding_of};
 
-use crate::exception::SystemException;
+use crate::exception::BrokerException;
 use crate::objects::is_a;
 use giop::{Giop, Request};
-use giop_types::{ID_ARGUMENT, split_octets};
+use giop_types::{ID_ARGUMENT, find_value, split_octets};
 use position_checker::Accepted;
-use program_runner::RunFault;
 use std::alloc::{AllocError, Global};
 use type_model::{Interface, Operation};
 
@@ -33,7 +32,7 @@ pub(crate) struct AskedCall<'s> {
 #[derive(Drop)]
 pub(crate) enum Finding<'s> {
     /// Nothing that can be done.
-    Refuses(SystemException),
+    Refuses(BrokerException),
     /// A question that is answered without the servant.
     Tells(bool),
     Calls(AskedCall<'s>),
@@ -58,18 +57,10 @@ pub(crate) fn read_body(
     ensures { IfOk result (λ tape.
         IsReading accepted.now.model.graph (asked_of request.now) node (option_map (λ t. t.items) tape)) }
 {
-    match accepted.read(
-        alloc,
-        node,
-        request.order,
-        request.body_at as u64,
-        request.octets,
-    ) {
-        Ok((tape, _)) => Ok(Some(tape)),
-        Err(fault) => match fault {
-            RunFault::NoMemory => Err(AllocError),
-            _ => Ok(None),
-        },
+    let place = request.body_at as u64;
+    match find_value(accepted, alloc, node, request.order, place, request.octets)? {
+        Some((tape, _)) => Ok(Some(tape)),
+        None => Ok(None),
     }
 }
 
@@ -98,6 +89,6 @@ pub(crate) fn type_asked<'s>(
 {
     match read_body(alloc, giop.table(), ID_ARGUMENT, request)? {
         Some(tape) => Ok(Finding::Tells(has_type(interface, request, tape.as_slice()))),
-        None => Ok(Finding::Refuses(SystemException::Marshal)),
+        None => Ok(Finding::Refuses(BrokerException::Marshal)),
     }
 }

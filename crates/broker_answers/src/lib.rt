@@ -15,7 +15,7 @@ mod servant;
 mod service;
 mod serving;
 
-pub use exception::SystemException;
+pub use exception::BrokerException;
 pub use servant::{Outcome, Servant};
 pub use service::Service;
 pub use serving::Answer;

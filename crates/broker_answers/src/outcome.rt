@@ -9,7 +9,7 @@ ghost use Rattle.broker_answers.specs.Replies.{IsThrown, Replies, reply_of};
 ghost use Rattle.broker_answers.specs.inner.Sending.{IsRaising, IsThrowing, IsTried};
 ghost use Rattle.broker_answers.specs.Servants.{said_of};
 
-use crate::exception::SystemException;
+use crate::exception::BrokerException;
 use crate::finding::AskedCall;
 use crate::reply::Replier;
 use crate::servant::Outcome;
@@ -87,7 +87,7 @@ impl<'r, 'b> Replier<'r, 'b> {
             Ok(octets) => Ok(octets),
             Err(fault) => match fault {
                 GiopFault::NoMemory => Err(AllocError),
-                _ => self.exception(SystemException::Internal),
+                _ => self.exception(BrokerException::Internal),
             },
         }
     }
@@ -102,7 +102,7 @@ impl<'r, 'b> Replier<'r, 'b> {
             Ok(tape) => self.try_send(ReplyStatus::UserException, exception.frame, tape.as_slice()),
             Err(fault) => match fault {
                 TapeFault::NoMemory => Err(AllocError),
-                _ => self.exception(SystemException::Internal),
+                _ => self.exception(BrokerException::Internal),
             },
         }
     }
@@ -122,7 +122,7 @@ impl<'r, 'b> Replier<'r, 'b> {
         let model = self.accepted.table().model();
         match exception_at(model, call.number, call.operation, place) {
             Some(exception) => self.throw(exception, members),
-            None => self.exception(SystemException::Unknown),
+            None => self.exception(BrokerException::Unknown),
         }
     }
 
@@ -145,7 +145,7 @@ impl<'r, 'b> Replier<'r, 'b> {
                 tape.as_slice(),
             ),
             Outcome::Raised(place, members) => { self.raise(call, *place, members.as_slice()) }
-            Outcome::NoImplement => self.exception(SystemException::NoImplement),
+            Outcome::NoImplement => self.exception(BrokerException::NoImplement),
         }
     }
 }

@@ -9,7 +9,7 @@ ghost use Rattle.giop_types.specs.Named.{has_name};
 ghost use Rattle.giop_messages.specs.Messages.{asked_of};
 ghost use Rattle.broker_answers.specs.Replies.{IsSent, IsUnsendable, acceptance, exception_reply, reply_of, truth_number, truth_reply};
 
-use crate::exception::SystemException;
+use crate::exception::BrokerException;
 use giop::{Giop, GiopFault, ReplyStatus, Request};
 use giop_types::{BOOLEAN_RESULT, SYSTEM_EXCEPTION};
 use position_checker::Accepted;
@@ -63,7 +63,7 @@ impl<'r, 'b> Replier<'r, 'b> {
     }
 
     /// The reply that a system exception was raised.
-    pub(crate) fn exception(&self, exception: SystemException) -> Result<Vec<u8>, AllocError>
+    pub(crate) fn exception(&self, exception: BrokerException) -> Result<Vec<u8>, AllocError>
         ensures { IfOk result (λ octets.
             IsSent (asked_of self.now.request.now) (exception_reply exception) octets.items) }
     {

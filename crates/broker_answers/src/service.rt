@@ -6,7 +6,7 @@ ghost use Rattle.broker_answers.specs.Findings.{Finds};
 ghost use Rattle.broker_answers.specs.inner.FindingSteps.{IsKnown, finding_of};
 ghost use Rattle.broker_answers.specs.Objects.{AreServed, interface_of, object_with as object_of, objects_of, served};
 
-use crate::exception::SystemException;
+use crate::exception::BrokerException;
 use crate::finding::{AskedCall, Finding, is_called, read_body, type_asked};
 use crate::objects::{Object, operation_named, place_of};
 use giop::{Giop, Request};
@@ -88,7 +88,7 @@ impl Service {
         ensures finds { IfOk result (λ f. Finds self.now (asked_of request.now) (finding_of f)) }
     {
         let Some(object) = self.object_with(&request.key) else {
-            return Ok(Finding::Refuses(SystemException::ObjectNotExist));
+            return Ok(Finding::Refuses(BrokerException::ObjectNotExist));
         };
         let Some(interface) = self.interface_of(object) else {
             unreachable!();
@@ -102,7 +102,7 @@ impl Service {
         let model = self.accepted.table().model();
         let name = request.operation.as_slice();
         let Some((number, operation)) = operation_named(model, interface, name) else {
-            return Ok(Finding::Refuses(SystemException::BadOperation));
+            return Ok(Finding::Refuses(BrokerException::BadOperation));
         };
         match read_body(alloc, &self.accepted, operation.request, request)? {
             Some(arguments) => Ok(Finding::Calls(AskedCall {
@@ -111,7 +111,7 @@ impl Service {
                 operation,
                 arguments,
             })),
-            None => Ok(Finding::Refuses(SystemException::Marshal)),
+            None => Ok(Finding::Refuses(BrokerException::Marshal)),
         }
     }
 }

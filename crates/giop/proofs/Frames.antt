@@ -3,13 +3,11 @@ use Rattle.std.proofs.Common.{◌≡◌, ◌⊎◌, inl, inr, ℕ, Bool, true, f
 use Rattle.std.specs.Prelude.{if◌then◌else◌}
 use Rattle.giop_messages.specs.declared.head.Head.{Head}
 use Rattle.giop_messages.specs.declared.frame.Frame.{Frame}
-use Rattle.giop_messages.specs.Heads.{number_in}
 use Rattle.giop_messages.specs.Framing.{Piece, Whole, front, placed, joined, begun, added, run_behind, is_fragment, id_in}
 use Rattle.giop_messages.specs.Runs.{IsNext, IsFrame}
-use Rattle.giop_messages.proofs.HeadFacts.{order_is}
 use Rattle.giop_messages.specs.declared.message.Message.{Message}
 use Rattle.giop_messages.specs.Messages.{Content, Says, content_of}
-use Rattle.giop.specs.Fronts.{IsPart, IsWhole, IsSilent, numbered, with_piece}
+use Rattle.giop.specs.Fronts.{IsPart, IsWhole, IsSilent, with_piece}
 
 -- what stands at the front with a fragment
 joined_is : (run : Option (List ℕ)) (head : Head) (piece rest : List ℕ) (goes_on : Bool) → head.goes_on ≡ goes_on
@@ -39,12 +37,6 @@ message_placed run head piece rest goes_on e g =
     else if head.goes_on then Piece (begun piece) rest else Whole piece (run_behind run piece) rest)
     e
     ∙ ap (λ (b : Bool). if b then Piece (begun piece) rest else Whole piece (run_behind run piece) rest) g
-
-id_told : (frame : Frame) (octets lent : List ℕ) (run : Option (List ℕ)) (id : ℕ) → IsFrame run octets frame
-    → lent ≡ take frame.len octets → id ≡ numbered frame.head.order lent → id ≡ id_in (take frame.len octets)
-id_told frame octets lent run id f e n =
-    n ∙ ap (numbered frame.head.order) e
-    ∙ ap (λ order. number_in order 4 (drop 12 (take frame.len octets))) (sym (order_is frame.head (take frame.len octets) f.is))
 
 fragment_found : (run : Option (List ℕ)) (octets : List ℕ) (frame : Frame) (id : ℕ) (goes_on : Bool)
     → IsFrame run octets frame → is_fragment frame.head.kind ≡ true → frame.head.goes_on ≡ goes_on
@@ -83,9 +75,9 @@ part_told run octets frame id false false f e g (inr wrong) n = absurd (cc)
 pub part_found : (run : Option (List ℕ)) (octets lent : List ℕ) (frame : Frame) (id : ℕ) (fragment : Bool)
     → IsFrame run octets frame → fragment ≡ is_fragment frame.head.kind
     → (fragment ≡ true) ⊎ (frame.head.goes_on ≡ true) → lent ≡ take frame.len octets
-    → id ≡ numbered frame.head.order lent → IsPart run octets id (not fragment) (not frame.head.goes_on) frame.len
+    → id ≡ id_in lent → IsPart run octets id (not fragment) (not frame.head.goes_on) frame.len
 part_found run octets lent frame id fragment f e b l n =
-    part_told run octets frame id fragment frame.head.goes_on f (sym e) refl b (id_told frame octets lent run id f l n)
+    part_told run octets frame id fragment frame.head.goes_on f (sym e) refl b (n ∙ ap id_in l)
 
 -- ---- whole messages
 

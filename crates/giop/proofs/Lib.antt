@@ -7,7 +7,7 @@ pub mod HeaderSplits
 pub mod HeaderTapes
 pub mod MadeFacts
 pub mod Places
-pub mod ProfileParts
+pub mod ProfileKeys
 pub mod Refusals
 pub mod RoundTrips
 pub mod TargetSplits

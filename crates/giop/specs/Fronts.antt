@@ -1,9 +1,7 @@
 -- What is told of the front of a stream, while a run may be open.
 use Rattle.std.specs.Prelude.{◌≡◌, ◌⊎◌, ℕ, ◌≤◌, Bool, true, false, List, length, take, drop, Option, Some, None, IsSomeAnd}
-use Rattle.type_graph.specs.declared.width.Order.{Order}
 use Rattle.giop_messages.specs.declared.fault.FramingFault.{FramingFault}
 use Rattle.giop_messages.specs.declared.fault.FramingFault.TheVariants.{BadFragment}
-use Rattle.giop_messages.specs.Heads.{number_in}
 use Rattle.giop_messages.specs.Framing.{Front, More, Broken, Piece, Whole, front, begun, added, id_in}
 use Rattle.giop_messages.specs.Runs.{IsFirst, IsNext}
 use Rattle.giop_messages.specs.declared.fault.GiopFault.{GiopFault}
@@ -13,10 +11,6 @@ use Rattle.giop_messages.specs.Faults.{framing_as}
 use Rattle.giop_messages.specs.Messages.{Content, Says, content_of}
 use Rattle.giop.specs.declared.front.Front.{Front as Told}
 use Rattle.giop.specs.declared.front.Front.TheVariants as told
-
--- the number behind a head of this order
-abbrev pub numbered : Order → List ℕ → ℕ
-numbered order piece = number_in order 4 (drop 12 piece)
 
 -- a whole message of so many octets, which says this
 pub record IsWhole (run : Option (List ℕ)) (octets : List ℕ) (message : Message) (taken : ℕ) : Type 0 where

@@ -1,5 +1,4 @@
 -- What the crate's own code and proofs name, and no public contract does.
-pub mod Profiles
 pub mod Pushed
 pub mod Tapes
 pub mod Targets

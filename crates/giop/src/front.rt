@@ -1,16 +1,12 @@
 //! What stands at the front of a stream.
 
-ghost use Rattle.std.specs.Prelude.{◌≡◌, ◌≤◌, length, option_map, None, IfOk, IfErr};
-ghost use Rattle.giop_messages.specs.Framing.{id_in, is_fragment};
-ghost use Rattle.giop_messages.specs.Heads.{number_in};
-ghost use Rattle.giop_messages.specs.Runs.{IsFrame, IsMessage};
-ghost use Rattle.giop.specs.Fronts.{IsFound, IsRefused, numbered};
+ghost use Rattle.std.specs.Prelude.{option_map, None, IfOk, IfErr};
+ghost use Rattle.giop_messages.specs.Runs.{IsFrame};
+ghost use Rattle.giop.specs.Fronts.{IsFound, IsRefused};
 
 use crate::giop_calls::Giop;
-use byteorder::{BigEndian, ByteOrder, LittleEndian};
-use giop_messages::{Frame, GiopFault, HEAD_LEN, Message, Run, frame_in};
+use giop_messages::{Frame, GiopFault, Message, Run, frame_in, message_id};
 use std::alloc::Global;
-use type_graph::Order;
 
 /// What stands at the front of a stream.
 #[derive(Drop)]
@@ -36,18 +32,6 @@ pub enum Front<'b> {
     },
 }
 
-/// The number behind the head of a piece.
-fn id_of(order: Order, piece: &[u8]) -> u32
-    requires { 16 ≤ length piece.now }
-    ensures { result ≡ numbered order piece.now }
-{
-    let behind = piece.split_at(HEAD_LEN).1;
-    match order {
-        Order::Big => BigEndian::read_u32(behind),
-        Order::Little => LittleEndian::read_u32(behind),
-    }
-}
-
 impl Giop {
     /// A message, or a piece of one.
     fn read_frame<'b>(
@@ -65,7 +49,7 @@ impl Giop {
         let is_fragment = frame.head.is_fragment();
         if is_fragment || frame.head.goes_on {
             return Ok(Front::Part {
-                id: id_of(frame.head.order, piece),
+                id: message_id(piece),
                 first: !is_fragment,
                 last: !frame.head.goes_on,
                 taken: frame.len,

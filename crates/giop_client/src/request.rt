@@ -1,15 +1,13 @@
 //! Requests.
 
-ghost use Rattle.std.specs.Prelude.{◌≡◌, ◌≤◌, true, length, take, IfErr, OnOk};
 ghost use Rattle.std.specs.Option.{ForSome};
 ghost use Rattle.type_model.specs.Names.{IsNamed};
 ghost use Rattle.giop.specs.Made.{given_by};
-ghost use Rattle.iiop_broker.specs.Ends.{Adds, IsUnsent};
 ghost use Rattle.giop_client.specs.Requests.{IsSending};
 
 use crate::fault::SendFault;
 use giop::{Addressed, Body, Giop};
-use iiop_broker::Output;
+use iiop_broker::{Output, send};
 use std::alloc::Global;
 use type_graph::Order;
 
@@ -25,26 +23,6 @@ pub struct Request<'c> {
     /// The object, as it is named to its server.
     pub target: Addressed<'c>,
     pub operation: &'c [u8],
-}
-
-/// Writes octets.
-///
-/// # Errors
-/// How many were written before a write failed.
-fn send<O: Output>(writer: &mut O, octets: &[u8]) -> Result<(), usize>
-    ensures sent { OnOk result (Adds (O.written writer.old) octets.now (O.written writer.new)) }
-    ensures unsent { IfErr result (λ n.
-        IsUnsent (O.written writer.old) octets.now n (O.written writer.new) (O.failure writer.new)) }
-{
-    let mut sent = 0;
-    while sent < octets.len() {
-        match writer.write(octets.split_at(sent).1) {
-            Ok(0) => return Err(sent),
-            Ok(n) => sent += n,
-            Err(_) => return Err(sent),
-        }
-    }
-    Ok(())
 }
 
 /// Writes a request with the body of accepted types, the number of one of them that has a name, and

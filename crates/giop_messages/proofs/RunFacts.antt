@@ -1,6 +1,7 @@
 -- What a run keeps when it begins, and when a fragment is added.
 use Rattle.std.proofs.Common.{◌≡◌, ℕ, ◌+◌, ◌-◌, ◌%◌, ◌/◌, ◌^◌, ◌<◌, ◌≤◌, true, false, not, ◌&&◌, List, [], ◌++◌, length, take, drop, refl, sym, ap, ap₂, ◌∙◌, mod-eq_of_lt, arith}
-use Rattle.std.proofs.Common.{None, Ok, nat_eq, nat_lt, slice_index, if◌then◌else◌}
+use Rattle.std.specs.Result.{OnOk, OnErr}
+use Rattle.std.proofs.Common.{None, Result, Ok, Err, subst, nat_eq, nat_lt, slice_index, if◌then◌else◌}
 use Rattle.std.proofs.lemmas.Bool.{eqb-true, ltb-false, ne_eqb, or_parts}
 use Rattle.std.proofs.lemmas.List.{drop-set-lt, get_or-set_other, get_or-set_same, get_or-take, get_or_append_left, length-append, length-drop, length-take-le}
 use Rattle.std.proofs.Math.ListN.{length-set}
@@ -15,8 +16,8 @@ use Rattle.giop_messages.specs.declared.head.MessageKind.{MessageKind}
 use Rattle.giop_messages.specs.declared.head.MessageKind.TheVariants.{Request, Reply, CancelRequest, LocateRequest, LocateReply, CloseConnection, MessageError, Fragment}
 use Rattle.giop_messages.specs.declared.head.Head.{Head}
 use Rattle.giop_messages.specs.Heads.{flags_in, goes_on, head_in, head_of, max_size, may_go_on, number_in, order_of, size_in}
-use Rattle.giop_messages.specs.Framing.{Whole, begun, front, is_fragment, order_in, sized}
-use Rattle.giop_messages.specs.Runs.{IsFirst, IsNext, IsRun}
+use Rattle.giop_messages.specs.Framing.{Whole, added, begun, breaks_run, front, is_fragment, order_in, sized}
+use Rattle.giop_messages.specs.Runs.{IsAlone, IsFirst, IsRun}
 use Rattle.giop_messages.proofs.HeadFacts.{head_alone, head_longer, head_ok, head_on}
 use Rattle.giop_messages.proofs.FrontFacts.{own_front, run_kept}
 
@@ -36,7 +37,7 @@ sized_long message le =
     )
 
 -- bit 1 of flags that have it is taken away, and bit 0 stays
-without : (flags : ℕ) → goes_on flags ≡ true → (goes_on (flags - 2) ≡ false) × (order_of (flags - 2) ≡ order_of flags)
+pub without : (flags : ℕ) → goes_on flags ≡ true → (goes_on (flags - 2) ≡ false) × (order_of (flags - 2) ≡ order_of flags)
 without flags on =
     let bit : flags / 2 % 2 ≡ 1 = eqb-true (flags / 2 % 2) 1 on in
     let off : (flags - 2) / 2 % 2 ≡ 0 = omega (arith, bit) in
@@ -75,7 +76,7 @@ begun_run message first =
       sized = omega (arith, long, whole, limit);
       head = head_of (flags_in other) (size_in other) head.kind;
       is = record { head_is = is; whole = omega (arith, long, whole, size_same, said) };
-      request = request_kind head.kind (head_on message head first.is.head_is first.goes_on) first.request;
+      kind_is = request_kind head.kind (head_on message head first.is.head_is first.goes_on) first.request;
       alone = off;
     } where
       request_kind : (kind : MessageKind) → may_go_on kind ≡ true → is_fragment kind ≡ false → kind ≡ Request
@@ -123,37 +124,60 @@ sized_head run more head e alone le limit =
     (omega (arith, size, limit))
     ∙ ap (λ (k : ℕ). Ok (head_of (flags_in other) k head.kind)) size
 
--- the run with a fragment
-pub added_run : (run fragment : List ℕ) → IsRun run → IsNext run fragment → IsRun (sized (run ++ drop 16 fragment))
-added_run run fragment is next =
-    let kept = run_kept run next.head next.kept in
+-- it goes on no more than the run did
+still_alone : (run more : List ℕ) (head : Head) → head_in run ≡ Ok head → head.goes_on ≡ false → 12 ≤ length run
+    → goes_on (flags_in (sized (run ++ more))) ≡ false
+still_alone run more head e alone le =
+    let message = run ++ more in
+    let back = plain_word (order_in message) Four (length message - 12) ++ drop 12 message in
+    let long = length-append run more in
+    let eight : length (take 8 message) ≡ 8 = length-take-le 8 message (omega (arith, le, long)) in
+    let flags : flags_in (sized message) ≡ flags_in message =
+    get_or_append_left (take 8 message) back 0 6 (omega (arith, eight)) ∙ get_or-take 8 message 6 0 (omega arith) in
+    let before : head_in message ≡ Ok head = head_longer run more le ∙ e in
+    ap goes_on flags ∙ sym (ap (λ (h : Head). h.goes_on) (head_ok message head before).0) ∙ alone
+
+-- how long it is with a piece that breaks no rule
+pub joined_limit : (run fragment : List ℕ) (head : Head) → 12 ≤ length run → length run ≤ 12 + max_size
+    → breaks_run run head ≡ false → length fragment ≡ 12 + head.size
+    → (16 ≤ length fragment) × (length run + (length fragment - 16) ≤ 12 + max_size)
+joined_limit run fragment head le limit unbroken whole =
+    let kept = run_kept run head unbroken in
+    (omega (arith, kept.0, whole), omega (arith, le, kept.0, kept.1, whole))
+
+-- how long a run is with a fragment
+pub added_long : (run fragment : List ℕ) → 12 ≤ length run → length (added run fragment) ≡ length run + (length fragment - 16)
+added_long run fragment le =
+    let long = length-append run (drop 16 fragment) in
+    omega (arith, le, long, length-drop 16 fragment, sized_long (run ++ drop 16 fragment) (omega (arith, le, long)))
+
+-- a whole message of its kind with more octets, and its size written anew
+pub added_alone : (kind : MessageKind) (run fragment : List ℕ) → IsAlone kind run
+    → length run + (length fragment - 16) ≤ 12 + max_size → IsAlone kind (added run fragment)
+added_alone kind run fragment is limit =
     let more = drop 16 fragment in
     let long = length-append run more in
     let brought = length-drop 16 fragment in
-    let limit : length (run ++ more) ≤ 12 + max_size =
-    omega (arith, is.numbered, kept.0, kept.1, long, brought, next.is.whole) in
-    let same = sized_long (run ++ more) (omega (arith, is.numbered, long)) in
-    let said = sized_head run more is.head is.is.head_is is.alone (omega (arith, is.numbered)) limit in
-    let head = head_of (flags_in (sized (run ++ more))) (length (run ++ more) - 12) is.head.kind in
+    let same = added_long run fragment (omega (arith, is.numbered)) in
+    let within : length (run ++ more) ≤ 12 + max_size = omega (arith, limit, long, brought) in
     record {
-      numbered = omega (arith, is.numbered, long, same);
+      numbered = omega (arith, is.numbered, same);
       sized = omega (arith, limit, same);
-      head = head;
-      is = record { head_is = said; whole = omega (arith, same, is.numbered, long) };
-      request = is.request;
-      alone = alone_in run more is (omega (arith, is.numbered));
-    } where
-      alone_in : (run more : List ℕ) → (is : IsRun run) → 12 ≤ length run → goes_on (flags_in (sized (run ++ more))) ≡ false
-      alone_in run more is le =
-          let message = run ++ more in
-          let back = plain_word (order_in message) Four (length message - 12) ++ drop 12 message in
-          let long = length-append run more in
-          let eight : length (take 8 message) ≡ 8 = length-take-le 8 message (omega (arith, le, long)) in
-          let flags : flags_in (sized message) ≡ flags_in message =
-          get_or_append_left (take 8 message) back 0 6 (omega (arith, eight)) ∙ get_or-take 8 message 6 0 (omega arith) in
-          let before : head_in message ≡ Ok is.head = head_longer run more le ∙ is.is.head_is in
-          ap goes_on flags ∙ sym (ap (λ (h : Head). h.goes_on) (head_ok message is.head before).0) ∙ is.alone
+      head = head_of (flags_in (sized (run ++ more))) (length (run ++ more) - 12) is.head.kind;
+      is = record {
+        head_is = sized_head run more is.head is.is.head_is is.alone (omega (arith, is.numbered)) within;
+        whole = omega (arith, same, is.numbered, long, brought);
+      };
+      kind_is = is.kind_is;
+      alone = still_alone run more is.head is.is.head_is is.alone (omega (arith, is.numbered));
+    }
+
+-- what is left by a call that adds a piece or nothing
+pub left : {T E : Type 0} (r : Result T E) (P : List ℕ → Type 0) (old more new : List ℕ) → OnOk r (new ≡ more) → OnErr r (new ≡ old)
+    → P old → P more → P new
+left (Ok t) P old more new added kept before after = subst P (sym added) after
+left (Err e) P old more new added kept before after = subst P (sym kept) before
 
 -- a run is the whole message at its own front
 pub run_front : (run : List ℕ) → IsRun run → front None run ≡ Whole run None []
-run_front run is = own_front is.head run is.is (ap is_fragment is.request) is.alone
+run_front run is = own_front is.head run is.is (ap is_fragment is.kind_is) is.alone

@@ -1,6 +1,7 @@
 -- What pieces of a run are, and what a run keeps.
 use Rattle.std.specs.Prelude.{◌≡◌, ℕ, ◌+◌, ◌≤◌, true, false, List, length, take, drop, Option, Some, None, IsSomeAnd, Result, Ok, Err}
 use Rattle.giop_messages.specs.declared.fault.FramingFault.{FramingFault}
+use Rattle.giop_messages.specs.declared.head.MessageKind.{MessageKind}
 use Rattle.giop_messages.specs.declared.head.MessageKind.TheVariants.{Request}
 use Rattle.giop_messages.specs.declared.head.Head.{Head}
 use Rattle.giop_messages.specs.declared.frame.Frame.{Frame}
@@ -42,11 +43,15 @@ IsFront run octets (Err fault) = front run octets ≡ Broken fault
 IsFront run octets (Ok None) = front run octets ≡ More
 IsFront run octets (Ok (Some frame)) = IsFrame run octets frame
 
--- what a run keeps: it is one whole request that no fragments follow, and holds the number of the request
-pub record IsRun (octets : List ℕ) : Type 0 where
+-- one whole message of a kind that no fragments follow, with the number of its request
+pub record IsAlone (kind : MessageKind) (octets : List ℕ) : Type 0 where
   pub numbered : 16 ≤ length octets
   pub sized : length octets ≤ 12 + max_size
   pub head : Head
   pub is : IsMessage head octets
-  pub request : head.kind ≡ Request
+  pub kind_is : head.kind ≡ kind
   pub alone : head.goes_on ≡ false
+
+-- what a run keeps
+abbrev pub IsRun : List ℕ → Type 0
+IsRun octets = IsAlone Request octets

@@ -1,12 +1,14 @@
 //! What stands at the front of a stream.
 
 ghost use Rattle.std.specs.Prelude.{◌≡◌, ◌≤◌, false, length, nat_eq, option_map};
-ghost use Rattle.giop_messages.specs.Framing.{breaks as breaks_any, breaks_run as breaks_this, id_in, is_cut as is_cut_in, is_other as is_other_in};
+ghost use Rattle.giop_messages.specs.Framing.{breaks as breaks_any, is_other as is_other_in};
 ghost use Rattle.giop_messages.specs.Heads.{max_size};
 ghost use Rattle.giop_messages.specs.Runs.{IsFront, IsMessage};
 
+use crate::cancel::message_id;
 use crate::fault::FramingFault;
-use crate::head::{HEAD_LEN, Head, MAX_SIZE, number};
+use crate::head::{HEAD_LEN, Head};
+use crate::joining::breaks_run;
 use crate::run::Run;
 
 /// The message at the front of a stream.
@@ -17,25 +19,6 @@ pub struct Frame {
     pub len: usize,
 }
 
-/// Whether there is no number, or more is to come at a place that is no multiple of 8.
-fn is_cut(head: &Head) -> bool
-    requires { head.now.size ≤ max_size }
-    ensures { result ≡ is_cut_in head.now }
-{
-    head.size < 4 || (head.goes_on && (HEAD_LEN as u32 + head.size) % 8 != 0)
-}
-
-/// Whether a fragment breaks a rule of the run.
-fn breaks_run(run: &Run, head: &Head) -> bool
-    requires { head.now.size ≤ max_size }
-    ensures { result ≡ breaks_this run.now head.now }
-{
-    if !run.has_order(head.order) || is_cut(head) {
-        return true;
-    }
-    run.size() + (head.size as usize - 4) > MAX_SIZE as usize
-}
-
 /// Whether a message breaks a rule of runs.
 fn breaks(run: Option<&Run>, head: &Head) -> bool
     requires { head.now.size ≤ max_size }
@@ -43,19 +26,10 @@ fn breaks(run: Option<&Run>, head: &Head) -> bool
 {
     let is_fragment = head.is_fragment();
     match run {
-        None => is_fragment || (head.goes_on && is_cut(head)),
-        Some(run) if is_fragment => breaks_run(run, head),
+        None => is_fragment || (head.goes_on && head.is_cut()),
+        Some(run) if is_fragment => breaks_run(run.octets(), head),
         Some(_) => head.goes_on,
     }
-}
-
-/// Whether a fragment has the number of the run's request.
-fn has_id_of(run: &Run, head: &Head, message: &[u8]) -> bool
-    requires message { IsMessage head.now message.now }
-    requires there { 16 ≤ length message.now }
-    ensures { result ≡ nat_eq (id_in message.now) (id_in run.now) }
-{
-    number(head.order, &message[HEAD_LEN..]) == run.id()
 }
 
 /// Whether the message is a fragment of another request.
@@ -65,7 +39,7 @@ fn is_other(run: Option<&Run>, head: &Head, message: &[u8]) -> bool
     ensures { result ≡ is_other_in (option_map (λ r. r.now) run.entry) head.now message.now }
 {
     match run {
-        Some(run) if head.is_fragment() => !has_id_of(run, head, message),
+        Some(run) if head.is_fragment() => message_id(message) != run.id(),
         _ => false,
     }
 }

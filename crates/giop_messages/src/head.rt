@@ -1,8 +1,8 @@
 //! Heads of messages.
 
 ghost use Rattle.std.specs.Prelude.{◌≡◌, ◌≤◌, length, drop, slice_get, slice_index, Option};
-ghost use Rattle.giop_messages.specs.Heads.{flags_in, goes_on as goes_on_of, head_in, is_1_2 as is_1_2_in, is_giop as is_giop_in, kinds, max_size, may_go_on, number_in, order_of, typed};
-ghost use Rattle.giop_messages.specs.Framing.{is_fragment};
+ghost use Rattle.giop_messages.specs.Heads.{flags_in, goes_on as goes_on_of, head_in, is_1_2 as is_1_2_in, is_giop as is_giop_in, kinds, max_size, may_go_on, number_in, order_of, size_in as size_of, typed};
+ghost use Rattle.giop_messages.specs.Framing.{is_cut, is_fragment};
 
 use crate::fault::FramingFault;
 use byteorder::{BigEndian, ByteOrder, LittleEndian};
@@ -64,7 +64,8 @@ impl MessageKind {
     }
 }
 
-fn is_giop(octets: &[u8]) -> bool
+/// Whether the letters stand at the front.
+pub fn is_giop(octets: &[u8]) -> bool
     requires { 12 ≤ length octets.now }
     ensures { result ≡ is_giop_in octets.now }
 {
@@ -90,7 +91,7 @@ pub(crate) fn order_in(flags: u8) -> Order
 }
 
 /// The unsigned number of four octets at the front.
-pub(crate) fn number(order: Order, octets: &[u8]) -> u32
+pub fn number(order: Order, octets: &[u8]) -> u32
     requires { 4 ≤ length octets.now }
     ensures { result ≡ number_in order 4 octets.now }
 {
@@ -98,6 +99,14 @@ pub(crate) fn number(order: Order, octets: &[u8]) -> u32
         Order::Big => BigEndian::read_u32(octets),
         Order::Little => LittleEndian::read_u32(octets),
     }
+}
+
+/// How many octets stand behind the head at the front.
+pub fn size_in(octets: &[u8]) -> u32
+    requires { 12 ≤ length octets.now }
+    ensures { result ≡ size_of octets.now }
+{
+    number(order_in(octets[6]), &octets[8..])
 }
 
 fn typed_head(octets: &[u8], size: u32) -> Result<Head, FramingFault>
@@ -125,6 +134,14 @@ impl Head {
         matches!(self.kind, MessageKind::Fragment)
     }
 
+    /// Whether there is no number, or more is to come at a place that is no multiple of 8.
+    pub fn is_cut(&self) -> bool
+        requires { self.now.size ≤ max_size }
+        ensures { result ≡ is_cut self.now }
+    {
+        self.size < 4 || (self.goes_on && (HEAD_LEN as u32 + self.size) % 8 != 0)
+    }
+
     /// What the 12 octets at the front say.
     ///
     /// # Errors
@@ -139,7 +156,7 @@ impl Head {
         if !is_1_2(octets) {
             return Err(FramingFault::Version);
         }
-        let size = number(order_in(octets[6]), &octets[8..]);
+        let size = size_in(octets);
         if size > MAX_SIZE {
             return Err(FramingFault::TooLong);
         }

@@ -2,6 +2,7 @@
 //! written, and the parts of their tapes.
 #![tactic(auto)]
 
+mod finding;
 mod graph;
 pub mod laws;
 mod names;
@@ -10,6 +11,7 @@ mod tapes;
 mod types;
 
 pub use basic_types::OBJECT;
+pub use finding::find_value;
 pub use graph::{
     BOOLEAN_RESULT, CANCEL_REQUEST_HEADER, ID_ARGUMENT, LOCATE_REPLY_HEADER, LOCATE_REQUEST_HEADER,
     NO_ARGUMENT, PROFILE_BODY_1_0, PROFILE_BODY_1_1, REPLY_HEADER, REQUEST_HEADER,

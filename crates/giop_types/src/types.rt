@@ -1,6 +1,6 @@
 //! The types at hand.
 
-ghost use Rattle.std.specs.Prelude.{◌≡◌, ◌≤◌, ◌++◌, ℕ, List, length, take, IsTrue, IfOk, IfErr};
+ghost use Rattle.std.specs.Prelude.{◌≡◌, ◌≤◌, ◌++◌, ℕ, List, length, take, IsTrue, IfOk, IfErr, IfSome, IfNone};
 ghost use Rattle.std.specs.Bool.{OnFalse};
 ghost use Rattle.type_graph.specs.Words.{reading, writing};
 ghost use Rattle.type_graph.specs.Encoding.{Means};
@@ -9,6 +9,7 @@ ghost use Rattle.giop_types.specs.GiopModel.{giop_table};
 ghost use Rattle.giop_types.specs.GiopNodes.{giop_nodes};
 ghost use Rattle.giop_types.specs.Named.{has_name};
 
+use crate::finding::find_value;
 use crate::table::giop_types;
 use position_checker::Accepted;
 use program_runner::RunFault;
@@ -79,6 +80,28 @@ impl GiopTypes {
             → Means giop_nodes (reading order) 64 node pos tape front → ⊥)) }
     {
         self.accepted.read(alloc, node, order, pos, octets)
+    }
+
+    /// As `read`; none where no front of the octets encodes a value of the node.
+    ///
+    /// # Errors
+    /// Want of memory.
+    pub fn find(
+        &self,
+        alloc: Global,
+        node: u32,
+        order: Order,
+        pos: u64,
+        octets: &[u8],
+    ) -> Result<Option<(Vec<u8>, usize)>, AllocError>
+        requires { IsTrue (has_name node) }
+        ensures found { IfOk result (λ o. IfSome o (λ r.
+            Means giop_nodes (reading order) 64 node pos r.0.items (take r.1 octets.now))) }
+        ensures within { IfOk result (λ o. IfSome o (λ r. r.1 ≤ length octets.now)) }
+        ensures none { IfOk result (λ o. IfNone o ((tape front rest : List ℕ) → octets.now ≡ front ++ rest
+            → Means giop_nodes (reading order) 64 node pos tape front → ⊥)) }
+    {
+        find_value(&self.accepted, alloc, node, order, pos, octets)
     }
 
     /// Writes the octets of the value of a node that the whole tape is, with zeros in the gaps. The

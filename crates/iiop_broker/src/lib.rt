@@ -33,6 +33,7 @@ pub use fitting::objects_fit;
 pub use memory::{Sink, Source};
 pub use reading::read_within;
 pub use room::MAX_ROOM;
+pub use sending::send;
 pub use serving::{MAX_READS, serve_stream, serve_stream_within};
 pub use stream_fault::StreamFault;
 pub use wire::Wire;

@@ -1,4 +1,4 @@
-//! An answer written whole.
+//! Octets written whole.
 
 ghost use Rattle.std.specs.Prelude.{◌≡◌, ◌≤◌, true, length, take, IfErr, OnOk};
 ghost use Rattle.iiop_broker.specs.Ends.{Adds, IsUnsent};
@@ -9,7 +9,7 @@ use crate::ends::Output;
 ///
 /// # Errors
 /// How many were written before a write failed.
-pub(crate) fn send<O: Output>(writer: &mut O, octets: &[u8]) -> Result<(), usize>
+pub fn send<O: Output>(writer: &mut O, octets: &[u8]) -> Result<(), usize>
     ensures sent { OnOk result (Adds (O.written writer.old) octets.now (O.written writer.new)) }
     ensures sound { OnOk result (O.failure writer.new ≡ O.failure writer.old) }
     ensures unsent { IfErr result (λ n.

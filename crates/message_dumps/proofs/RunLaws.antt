@@ -10,7 +10,6 @@ use Rattle.std.proofs.lemmas.Bool.Decides.{nat_tests}
 use Rattle.std.specs.Map.Iter.{deref_pair}
 use Rattle.std.proofs.lemmas.Map.Entries.{sum_by-insert_entry, sum_by-remove_entry}
 use Rattle.std.specs.Prelude.{if◌then◌else◌}
-use Rattle.giop_messages.specs.Heads.{max_size}
 use Rattle.giop_messages.specs.Framing.{id_in}
 use Rattle.message_dumps.specs.OpenRuns.{AreHeld, Continues, Follows, IsBehind, IsOldest, Open, Runs, has_room, held, is_before, is_fragment, is_short, max_held, max_open, run_of, with_run, without}
 
@@ -146,15 +145,6 @@ best_of_none (Some best) all seen is none h = absurd cc
 
 -- ---- what a fragment leaves
 
-pub behind_stray : (place : ℕ) (message : List ℕ) (runs after : Runs) → is_fragment message ≡ true → is_short message ≡ false
-    → run_of (id_in message) runs ≡ None → after ≡ runs → IsBehind place message runs after
-behind_stray place message runs after is long none same = record {
-  fragment = λ _ _. subst (λ (o : Option Open). Continues place message runs o after) (sym none) same;
-  first = λ other. absurd cc;
-  whole = λ other. absurd cc;
-  short = λ _ short. absurd cc;
-}
-
 pub behind_next : (place : ℕ) (message : List ℕ) (runs after : Runs) (run : Open) → is_fragment message ≡ true
     → is_short message ≡ false → run_of (id_in message) runs ≡ Some run
     → Follows place message run (without (id_in message) runs) after → IsBehind place message runs after
@@ -164,8 +154,3 @@ behind_next place message runs after run is long there next = record {
   whole = λ other. absurd cc;
   short = λ _ short. absurd cc;
 }
-
--- ---- room
-
-pub room_beside_none : (len : ℕ) → len ≤ 12 + max_size → has_room len [] ≡ true
-room_beside_none len small = grind (arith, nat_tests)

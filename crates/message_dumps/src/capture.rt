@@ -55,10 +55,17 @@ fn left_lines(alloc: Global, dump: &mut Dump, side: Side) -> Result<Option<Strin
     dump.tell_end(alloc, side)
 }
 
-/// Tells what is left of a direction, of the first one first.
-pub(crate) fn last_lines(alloc: Global, dump: &mut Dump) -> Result<Option<String>, AllocError>
+/// Tells what is left of a direction, of the first one first, once a capture has ended.
+pub(crate) fn last_lines(
+    alloc: Global,
+    dump: &mut Dump,
+    has_ended: bool,
+) -> Result<Option<String>, AllocError>
     ensures { IfOk result (λ o. IfSome o (λ text. HasLines (string_bytes text))) }
 {
+    if !has_ended {
+        return Ok(None);
+    }
     match left_lines(alloc, dump, Side::First)? {
         Some(text) => Ok(Some(text)),
         None => left_lines(alloc, dump, Side::Second),

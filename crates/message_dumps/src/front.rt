@@ -1,12 +1,9 @@
 //! Where messages stand in the octets of a direction.
 
 ghost use Rattle.std.specs.Prelude.{◌≡◌, ◌≤◌, length};
-ghost use Rattle.giop_messages.specs.Heads.{flags_in, is_giop as is_giop_in, number_in, order_of, size_in};
 ghost use Rattle.message_dumps.specs.Fronts.{IsWithin, front_of, is_of_1 as is_of_1_in, sized as sized_of};
 
-use byteorder::{BigEndian, ByteOrder, LittleEndian};
-use giop_messages::{FramingFault, HEAD_LEN, MAX_SIZE};
-use type_graph::Order;
+use giop_messages::{FramingFault, HEAD_LEN, MAX_SIZE, is_giop, size_in};
 
 /// What stands at the front of the octets of a direction.
 #[derive(Clone, Copy, Debug, PartialEq, Eq)]
@@ -23,48 +20,12 @@ pub(crate) enum Front {
     Lost(FramingFault),
 }
 
-fn is_giop(octets: &[u8]) -> bool
-    requires { 12 ≤ length octets.now }
-    ensures { result ≡ is_giop_in octets.now }
-{
-    octets[0] == b'G' && octets[1] == b'I' && octets[2] == b'O' && octets[3] == b'P'
-}
-
 /// Whether it is of a version that is known, 1.0 to 1.2.
 fn is_of_1(octets: &[u8]) -> bool
     requires { 12 ≤ length octets.now }
     ensures { result ≡ is_of_1_in octets.now }
 {
     octets[4] == 1 && octets[5] < 3
-}
-
-/// The order that the flags tell.
-pub(crate) fn order_in(flags: u8) -> Order
-    ensures { result ≡ order_of flags }
-{
-    if flags % 2 == 1 {
-        Order::Little
-    } else {
-        Order::Big
-    }
-}
-
-/// The unsigned number of four octets at the front.
-pub(crate) fn number(order: Order, octets: &[u8]) -> u32
-    requires { 4 ≤ length octets.now }
-    ensures { result ≡ number_in order 4 octets.now }
-{
-    match order {
-        Order::Big => BigEndian::read_u32(octets),
-        Order::Little => LittleEndian::read_u32(octets),
-    }
-}
-
-fn size(octets: &[u8]) -> u32
-    requires { 12 ≤ length octets.now }
-    ensures { result ≡ size_in octets.now }
-{
-    number(order_in(octets[6]), &octets[8..])
 }
 
 /// A message of a size, of which these octets are there.
@@ -101,5 +62,5 @@ pub(crate) fn front_in(octets: &[u8]) -> Front
     if !is_of_1(octets) {
         return Front::Lost(FramingFault::Version);
     }
-    sized(octets, size(octets))
+    sized(octets, size_in(octets))
 }

@@ -109,11 +109,7 @@ impl<R: Read + Drop> Capture for Octets<R> {
         if let Some(text) = self.lines_in_order(words, alloc, Side::First)? {
             return Ok(Some(text));
         }
-        if self.has_ended {
-            last_lines(alloc, &mut self.dump)
-        } else {
-            Ok(None)
-        }
+        last_lines(alloc, &mut self.dump, self.has_ended)
     }
 
     fn go_on<W: Words, P: Patience>(

@@ -1,18 +1,13 @@
 //! Messages that come in fragments.
 
-ghost use Rattle.std.specs.Prelude.{◌≡◌, ◌≤◌, ◌-◌, ◌+◌, ◌++◌, length, take, drop, true, false, IfOk};
-ghost use Rattle.type_graph.specs.declared.width.Width.TheVariants.{Four};
-ghost use Rattle.type_graph.specs.Words.{plain_word};
+ghost use Rattle.std.specs.Prelude.{◌≡◌, ◌≤◌, ◌+◌, length, true, false, IfOk};
 ghost use Rattle.giop_messages.specs.Heads.{flags_in, goes_on, max_size};
-ghost use Rattle.giop_messages.specs.Framing.{added, begun, sized};
+ghost use Rattle.giop_messages.specs.Framing.{added, begun};
 ghost use Rattle.message_dumps.specs.OpenRuns.{is_followed, is_long, open_at};
 
-use crate::front::order_in;
-use byteorder::{BigEndian, ByteOrder, LittleEndian};
-use giop_messages::{HEAD_LEN, MAX_SIZE};
+use giop_messages::{HEAD_LEN, MAX_SIZE, add_piece, begin_run};
 use std::alloc::{AllocError, Global};
 use std::marker::Model;
-use type_graph::Order;
 
 /// Where the octets begin that a fragment brings.
 const FRAGMENT_HEAD_LEN: usize = 16;
@@ -43,37 +38,6 @@ pub(crate) fn begins(message: &[u8]) -> bool
     message[6] / 2 % 2 == 1
 }
 
-/// Writes a number over the first four octets.
-fn put(order: Order, out: &mut [u8], n: u32)
-    requires { 4 ≤ length out.old }
-    ensures { out.new ≡ plain_word order Four n ++ drop 4 out.old }
-{
-    match order {
-        Order::Big => BigEndian::write_u32(out, n),
-        Order::Little => LittleEndian::write_u32(out, n),
-    }
-}
-
-/// Writes a size over that of a message.
-fn put_size(message: &mut Vec<u8>, order: Order, size: u32)
-    requires { 12 ≤ length message.old.items }
-    ensures { message.new.items
-        ≡ take 8 message.old.items ++ (plain_word order Four size ++ drop 12 message.old.items) }
-{
-    put(order, message.slice_mut(8..), size);
-}
-
-/// Gives a message the size that its octets have.
-fn renew_size(message: &mut Vec<u8>)
-    requires long { 12 ≤ length message.old.items }
-    requires short { length message.old.items ≤ 12 + max_size }
-    ensures { message.new.items ≡ sized message.old.items }
-{
-    let order = order_in(message[6]);
-    let size = message.as_slice().len() - HEAD_LEN;
-    put_size(message, order, size as u32);
-}
-
 impl OpenMessage {
     /// The message that a first piece begins, which stands at a place.
     ///
@@ -85,11 +49,8 @@ impl OpenMessage {
         requires goes_on { goes_on (flags_in first.now) ≡ true }
         ensures { IfOk result (λ message. message ≡ open_at place (begun first.now)) }
     {
-        let mut octets = Vec::new(alloc);
-        octets.extend_from_slice(first)?;
-        octets[6] -= 2;
         Ok(OpenMessage {
-            octets,
+            octets: begin_run(alloc, first)?,
             last: place,
         })
     }
@@ -132,8 +93,7 @@ impl OpenMessage {
             mut octets,
             last: _,
         } = self;
-        octets.extend_from_slice(&fragment[FRAGMENT_HEAD_LEN..])?;
-        renew_size(&mut octets);
+        add_piece(&mut octets, fragment)?;
         Ok(OpenMessage {
             octets,
             last: place,

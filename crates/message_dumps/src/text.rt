@@ -99,11 +99,7 @@ impl<R: Read + Drop> Capture for Text<R> {
         if let Some(text) = front_lines(words, alloc, &mut self.dump, self.side)? {
             return Ok(Some(text));
         }
-        if self.has_ended {
-            last_lines(alloc, &mut self.dump)
-        } else {
-            Ok(None)
-        }
+        last_lines(alloc, &mut self.dump, self.has_ended)
     }
 
     fn go_on<W: Words, P: Patience>(

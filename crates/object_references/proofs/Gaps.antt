@@ -1,6 +1,5 @@
 -- What stands in the gaps of an encapsulation.
-use Rattle.std.proofs.Common.{◌≡◌, ◌⊎◌, inl, inr, ℕ, suc, ◌+◌, ◌<◌, ◌≤◌, min, List, [], ◌∷◌, ◌++◌, length, take, drop, get_or, refl, sym, ap, ap₂, ◌∙◌, subst, nat_eq, Bool, true, false, if◌then◌else◌, arith, eq-eqb}
-use Rattle.std.proofs.Math.Seq.{drop-cons}
+use Rattle.std.proofs.Common.{◌≡◌, ◌⊎◌, inl, inr, ℕ, ◌+◌, ◌≤◌, min, List, [], ◌∷◌, ◌++◌, length, take, drop, refl, sym, ap, ap₂, ◌∙◌, subst, arith}
 use Rattle.std.proofs.lemmas.Bool.{cases_lt}
 use Rattle.std.proofs.lemmas.List.{drop_all, take-append-drop}
 use Rattle.type_graph.specs.declared.width.Order.{Order}
@@ -15,39 +14,6 @@ use Rattle.object_references.specs.inner.Gaps.{AreGaps}
 use Rattle.object_references.proofs.Cleaning.{encodes_clean}
 
 -- ---- where two lists differ
-
--- at a place in both of them
-next_by : (i at : ℕ) (xs ys : List ℕ) → at ≡ i + 1 → i < length xs → i < length ys
-    → differences at (drop i xs) (drop i ys)
-    ≡ (if nat_eq (get_or xs i 0) (get_or ys i 0) then differences (at + 1) (drop (i + 1) xs) (drop (i + 1) ys)
-    else (at, get_or ys i 0) ∷ differences (at + 1) (drop (i + 1) xs) (drop (i + 1) ys))
-next_by i at xs ys e x y =
-    let one : suc i ≡ i + 1 = omega arith in
-    let next : suc at ≡ at + 1 = omega arith in
-    ap₂ (differences at) (drop-cons xs i 0 x) (drop-cons ys i 0 y)
-    ∙ ap₂ (λ (n k : ℕ). if nat_eq (get_or xs i 0) (get_or ys i 0) then differences k (drop n xs) (drop n ys)
-    else (at, get_or ys i 0) ∷ differences k (drop n xs) (drop n ys)) one next
-
-same_if : (b : Bool) (f g : List (ℕ × ℕ)) → b ≡ true → (if b then f else g) ≡ f
-same_if true f g e = refl
-same_if false f g e = absurd (cc)
-
-other_if : (b : Bool) (f g : List (ℕ × ℕ)) → b ≡ false → (if b then f else g) ≡ g
-other_if false f g e = refl
-other_if true f g e = absurd (cc)
-
-pub same_next : (i at : ℕ) (xs ys : List ℕ) → at ≡ i + 1 → i < length xs → i < length ys
-    → nat_eq (get_or xs i 0) (get_or ys i 0) ≡ true
-    → differences at (drop i xs) (drop i ys) ≡ differences (at + 1) (drop (i + 1) xs) (drop (i + 1) ys)
-same_next i at xs ys e x y same =
-    next_by i at xs ys e x y ∙ same_if (nat_eq (get_or xs i 0) (get_or ys i 0)) _ _ same
-
-pub other_next : (i at : ℕ) (xs ys : List ℕ) → at ≡ i + 1 → i < length xs → i < length ys
-    → nat_eq (get_or xs i 0) (get_or ys i 0) ≡ false
-    → differences at (drop i xs) (drop i ys)
-    ≡ (at, get_or ys i 0) ∷ differences (at + 1) (drop (i + 1) xs) (drop (i + 1) ys)
-other_next i at xs ys e x y other =
-    next_by i at xs ys e x y ∙ other_if (nat_eq (get_or xs i 0) (get_or ys i 0)) _ _ other
 
 behind_all : (at : ℕ) (xs : List ℕ) → differences at xs [] ≡ []
 behind_all at [] = refl

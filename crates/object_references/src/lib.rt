@@ -13,5 +13,5 @@ pub use encapsulation::split_flag;
 pub use fault::ReferenceFault;
 pub use iiop::profile;
 pub use manner::{Manner, manner_of};
-pub use reference::{Ior, push_reference};
+pub use reference::{Ior, owned, push_reference, reference_in};
 pub use text::{encapsulation_in, ior_from_text, ior_to_text};

@@ -69,7 +69,11 @@ pub fn push_reference(tape: &mut Vec<u8>, reference: &Ior) -> Result<(), TapeFau
     push_profiles(tape, reference.profiles.as_slice())
 }
 
-fn owned(alloc: Global, profiles: &[Tagged<'_>]) -> Result<Vec<(u32, Vec<u8>)>, AllocError>
+/// Tags with octets of their own.
+///
+/// # Errors
+/// Want of memory.
+pub fn owned(alloc: Global, profiles: &[Tagged<'_>]) -> Result<Vec<(u32, Vec<u8>)>, AllocError>
     ensures { IfOk result (λ all. owned_pairs all.items ≡ pairs_of profiles.now) }
 {
     let mut all = Vec::new(alloc);
@@ -84,7 +88,10 @@ fn owned(alloc: Global, profiles: &[Tagged<'_>]) -> Result<Vec<(u32, Vec<u8>)>, 
 }
 
 /// The reference at the front of a tape.
-pub(crate) fn reference_in(alloc: Global, tape: &[u8]) -> Result<Ior, TapeFault>
+///
+/// # Errors
+/// `NotATape` where none stands there. Want of memory.
+pub fn reference_in(alloc: Global, tape: &[u8]) -> Result<Ior, TapeFault>
     ensures found { IfOk result (λ ior. (rest : List ℕ) × IsFront tape.now (reference_of ior) rest) }
     ensures refused { IfErr result (λ fault. RefusesReading fault ((reference : Reference) (rest : List ℕ)
         → IsFront tape.now reference rest → ⊥)) }

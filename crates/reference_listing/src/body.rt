@@ -1,7 +1,6 @@
 //! Profiles of IIOP read.
 
-ghost use Rattle.std.specs.Prelude.{◌≡◌, ◌≤◌, ℕ, Bool, List, drop, length, IfOk, IfSome, IfNone, IsTrue};
-ghost use Rattle.type_graph.specs.declared.width.Order.{Order};
+ghost use Rattle.std.specs.Prelude.{◌≡◌, ◌≤◌, ℕ, List, drop, length, IfOk, IfSome, IfNone, IsTrue};
 ghost use Rattle.giop_types.specs.Named.{has_name};
 ghost use Rattle.object_references.specs.Profiles.{Body, body_node};
 ghost use Rattle.reference_listing.specs.Listings.{Iiop, IsIiop, body_of, iiop_of};
@@ -11,7 +10,6 @@ use crate::listing::{IiopBody, IiopProfile};
 use crate::tape::body_of_tape;
 use giop_types::{GiopTypes, PROFILE_BODY_1_0, PROFILE_BODY_1_1, TapeFault};
 use object_references::split_flag;
-use program_runner::RunFault;
 use std::alloc::{AllocError, Global};
 use type_graph::Order as ByteOrder;
 
@@ -57,12 +55,9 @@ fn front_body(
     ensures refused { IfOk result (λ o. IfNone o ((body : Body) (behind : List ℕ)
         → IsFront octets.now order later body behind → ⊥)) }
 {
-    let (tape, taken) = match types.read(alloc, node_of(later), order, BEHIND_FLAG, octets) {
-        Ok(read) => read,
-        Err(fault) => match fault {
-            RunFault::NoMemory => return Err(AllocError),
-            _ => return Ok(None),
-        },
+    let (tape, taken) = match types.find(alloc, node_of(later), order, BEHIND_FLAG, octets)? {
+        Some(read) => read,
+        None => return Ok(None),
     };
     let body = match body_of_tape(alloc, later, tape.as_slice()) {
         Ok(body) => body,
@@ -97,7 +92,10 @@ fn some_body(
 }
 
 /// The profile of IIOP that this is, if it is one.
-pub(crate) fn iiop_profile(
+///
+/// # Errors
+/// Want of memory.
+pub fn iiop_profile(
     types: &GiopTypes,
     alloc: Global,
     tag: u32,

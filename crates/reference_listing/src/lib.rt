@@ -7,5 +7,6 @@ mod list;
 mod listing;
 mod tape;
 
+pub use body::iiop_profile;
 pub use list::{list_profile, list_reference};
 pub use listing::{IiopBody, IiopProfile, ListedProfile, Listing};

@@ -4,7 +4,6 @@ ghost use Rattle.std.specs.Prelude.{◌≡◌, ◌<◌, ◌^◌, ℕ, pos, List,
 ghost use Rattle.type_graph.specs.declared.width.Order.TheVariants.{Big};
 ghost use Rattle.type_graph.specs.declared.width.Width.TheVariants.{One};
 ghost use Rattle.type_graph.specs.Words.{word};
-ghost use Rattle.giop_types.specs.TapeParts.{pairs_of};
 ghost use Rattle.giop_types.specs.TapeRefusal.{RefusesReading};
 ghost use Rattle.object_references.specs.Profiles.{Body};
 ghost use Rattle.object_references.specs.References.{owned_pairs};
@@ -12,8 +11,9 @@ ghost use Rattle.reference_listing.specs.Listings.{body_of};
 ghost use Rattle.reference_listing.specs.inner.Bodies.{AreBehind, IsAddress, IsBodyTape};
 
 use crate::listing::IiopBody;
-use giop_types::{Tagged, TapeFault, split_octets, split_tagged_list, split_u8, split_u16};
-use std::alloc::{AllocError, Global};
+use giop_types::{TapeFault, split_octets, split_tagged_list, split_u8, split_u16};
+use object_references::owned;
+use std::alloc::Global;
 
 /// The address of an object: the host and port of its server, and its key there.
 #[derive(Clone, Copy)]
@@ -55,21 +55,6 @@ fn split_address(tape: &[u8]) -> Option<(Address<'_>, &[u8])>
         Some((key, rest)) => Some((Address { host, port, key }, rest)),
         None => None,
     }
-}
-
-/// Tags with octets of their own.
-fn owned(alloc: Global, all: &[Tagged<'_>]) -> Result<Vec<(u32, Vec<u8>)>, AllocError>
-    ensures { IfOk result (λ made. owned_pairs made.items ≡ pairs_of all.now) }
-{
-    let mut made = Vec::new(alloc);
-    for one in all {
-        let octets = one.octets.to_vec(alloc)?;
-        match made.push((one.tag, octets)) {
-            Ok(()) => (),
-            Err(_) => return Err(AllocError),
-        }
-    }
-    Ok(made)
 }
 
 /// The components behind a key, where the version has them.

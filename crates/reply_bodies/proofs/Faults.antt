@@ -1,6 +1,5 @@
 -- Faults that aren't want of memory, and what is read.
 use Rattle.std.proofs.Common.{◌≡◌, ℕ, List, ◌++◌, take, drop, Option, Some, None, IfSome, IfNone, refl, sym, subst}
-use Rattle.std.specs.Bool.{OnFalse}
 use Rattle.std.proofs.lemmas.List.{take-append-drop}
 use Rattle.type_graph.specs.declared.width.Order.{Order}
 use Rattle.type_graph.specs.Words.{reading}
@@ -10,9 +9,7 @@ use Rattle.giop_types.specs.GiopNodes.{giop_nodes}
 use Rattle.giop_types.specs.declared.tapes.fault.TapeFault.{TapeFault}
 use Rattle.giop_types.specs.declared.tapes.fault.TapeFault.TheVariants as tapes
 use Rattle.giop_types.specs.TapeRefusal.{RefusesReading}
-use Rattle.run_steps.specs.declared.fault.RunFault.{RunFault}
 use Rattle.run_steps.specs.declared.fault.RunFault.TheVariants as runs
-use Rattle.program_runner.specs.Refusal.{wants_memory}
 use Rattle.reply_bodies.specs.Bodies.{BeginsWith}
 use Rattle.reply_bodies.specs.inner.Tapes.{HasTape}
 

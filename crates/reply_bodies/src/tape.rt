@@ -7,7 +7,6 @@ ghost use Rattle.reply_bodies.specs.Bodies.{BeginsWith};
 ghost use Rattle.reply_bodies.specs.inner.Tapes.{HasTape};
 
 use giop_types::GiopTypes;
-use program_runner::RunFault;
 use std::alloc::{AllocError, Global};
 use type_graph::Order;
 
@@ -26,11 +25,8 @@ pub(crate) fn tape_at(
     ensures refused { IfOk result (λ o. IfNone o ((value : Tree)
         → BeginsWith order node place value octets.now → ⊥)) }
 {
-    match types.read(alloc, node, order, place, octets) {
-        Ok((tape, _)) => Ok(Some(tape)),
-        Err(fault) => match fault {
-            RunFault::NoMemory => Err(AllocError),
-            _ => Ok(None),
-        },
+    match types.find(alloc, node, order, place, octets)? {
+        Some((tape, _)) => Ok(Some(tape)),
+        None => Ok(None),
     }
 }

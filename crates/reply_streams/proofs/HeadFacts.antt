@@ -1,12 +1,10 @@
 -- What follows from what a head says to a client.
-use Rattle.std.proofs.Common.{◌≡◌, ℕ, ◌+◌, ◌-◌, ◌%◌, ◌/◌, ◌≤◌, Bool, true, false, List, ◌++◌, length, take, drop, set, refl, sym, ap, ap₂, ◌∙◌, arith}
-use Rattle.std.proofs.Common.{Result, Ok, Err, nat_eq, if◌then◌else◌}
-use Rattle.std.proofs.lemmas.Bool.{eqb-true, ne_eqb}
+use Rattle.std.proofs.Common.{◌≡◌, ℕ, ◌+◌, ◌-◌, ◌≤◌, Bool, true, false, List, ◌++◌, length, take, drop, set, refl, sym, ap, ap₂, ◌∙◌, arith}
+use Rattle.std.proofs.Common.{Result, Ok, Err, if◌then◌else◌}
 use Rattle.std.proofs.lemmas.List.{get_or-set_same, get_or_append_left, length-take-le, set-append_left, take-append-drop}
 use Rattle.std.proofs.Math.ListN.{length-set}
 use Rattle.std.proofs.Math.Seq.{take-set-lt}
 use Rattle.type_graph.specs.declared.width.Order.{Order}
-use Rattle.type_graph.specs.declared.width.Order.TheVariants.{Big, Little}
 use Rattle.giop_messages.specs.declared.fault.FramingFault.{FramingFault}
 use Rattle.giop_messages.specs.declared.fault.FramingFault.TheVariants.{BadHead}
 use Rattle.giop_messages.specs.declared.head.MessageKind.{MessageKind}
@@ -14,22 +12,13 @@ use Rattle.giop_messages.specs.declared.head.Head.{Head}
 use Rattle.giop_messages.specs.Heads.{flags_in, goes_on, head_in, max_size, order_of}
 use Rattle.giop_messages.specs.Framing.{begun, order_in}
 use Rattle.giop_messages.proofs.HeadFacts.{head_longer, head_of_front, head_ok}
+use Rattle.giop_messages.proofs.RunFacts.{without}
 use Rattle.reply_streams.specs.Heads.{alone, followed, may_go_on, reply_head}
 use Rattle.reply_streams.specs.inner.Runs.{IsSent}
 
 -- the same head, as if nothing followed
 abbrev pub lone : Head → Head
 lone head = record { kind = head.kind; order = head.order; goes_on = false; size = head.size }
-
--- bit 1 of flags that have it is taken away, and bit 0 stays
-without : (flags : ℕ) → goes_on flags ≡ true → (goes_on (flags - 2) ≡ false) × (order_of (flags - 2) ≡ order_of flags)
-without flags on =
-    let bit : flags / 2 % 2 ≡ 1 = eqb-true (flags / 2 % 2) 1 on in
-    let off : (flags - 2) / 2 % 2 ≡ 0 = omega (arith, bit) in
-    let same : (flags - 2) % 2 ≡ flags % 2 = omega (arith, bit) in (
-      ne_eqb ((flags - 2) / 2 % 2) 1 (λ e. absurd (omega (arith, off, e))),
-      ap (λ (n : ℕ). if nat_eq n 1 then Little else Big) same,
-    )
 
 begun_flags : (message : List ℕ) → 12 ≤ length message → flags_in (begun message) ≡ flags_in message - 2
 begun_flags message le = get_or-set_same message 6 (flags_in message - 2) 0 (omega (arith, le))

@@ -1,14 +1,10 @@
 //! Heads of messages that a server sends.
 
 ghost use Rattle.std.specs.Prelude.{◌≡◌, ◌≤◌, length, Ok};
-ghost use Rattle.giop_messages.specs.Framing.{is_cut as is_cut_in, same_order as are_same};
-ghost use Rattle.giop_messages.specs.Heads.{max_size, number_in};
 ghost use Rattle.reply_streams.specs.Heads.{followed as followed_as, may_go_on, reply_head as reply_head_in};
 ghost use Rattle.reply_streams.specs.Room.{wanted as wanted_by_all};
 
-use byteorder::{BigEndian, ByteOrder, LittleEndian};
 use giop_messages::{FramingFault, HEAD_LEN, Head, MessageKind};
-use type_graph::Order;
 
 /// Whether fragments may follow.
 fn may_be_followed(kind: MessageKind) -> bool
@@ -71,35 +67,5 @@ pub(crate) fn wanted(rest: &[u8]) -> usize
     match reply_head(rest) {
         Ok(head) => (head.size as usize + HEAD_LEN).saturating_sub(rest.len()),
         Err(_) => 0,
-    }
-}
-
-/// The unsigned number of four octets at the front.
-pub(crate) fn number(order: Order, octets: &[u8]) -> u32
-    requires { 4 ≤ length octets.now }
-    ensures { result ≡ number_in order 4 octets.now }
-{
-    match order {
-        Order::Big => BigEndian::read_u32(octets),
-        Order::Little => LittleEndian::read_u32(octets),
-    }
-}
-
-/// Whether there is no number, or more is to come at a place that is no multiple of 8.
-pub(crate) fn is_cut(head: &Head) -> bool
-    requires { head.now.size ≤ max_size }
-    ensures { result ≡ is_cut_in head.now }
-{
-    head.size < 4 || (head.goes_on && (HEAD_LEN as u32 + head.size) % 8 != 0)
-}
-
-/// Whether two byte orders are one.
-pub(crate) fn same_order(one: Order, other: Order) -> bool
-    ensures { result ≡ are_same one other }
-{
-    match (one, other) {
-        (Order::Big, Order::Big) => true,
-        (Order::Little, Order::Little) => true,
-        _ => false,
     }
 }

@@ -1,16 +1,16 @@
 //! One message of a stream.
 
-ghost use Rattle.std.specs.Prelude.{◌≡◌, ◌≤◌, ◌+◌, ℕ, List, length, IfOk, nat_eq};
+ghost use Rattle.std.specs.Prelude.{◌≡◌, ◌≤◌, ◌+◌, length, IfOk, nat_eq};
 ghost use Rattle.giop_messages.specs.declared.fault.FramingFault.TheVariants.{BadFragment, BadHead};
 ghost use Rattle.giop_messages.specs.declared.head.MessageKind.TheVariants.{Fragment, Reply};
 ghost use Rattle.giop_messages.specs.Framing.{id_in};
-ghost use Rattle.reply_streams.specs.Fronts.{begins, continues, front, placed};
+ghost use Rattle.reply_streams.specs.Fronts.{front, placed};
 ghost use Rattle.reply_streams.specs.inner.Runs.{IsSent};
 ghost use Rattle.reply_streams.specs.inner.Turns.{IsTaken, IsTurn};
 
-use crate::head::{is_cut, number, reply_head};
+use crate::head::reply_head;
 use crate::reply::SentReply;
-use giop_messages::{FramingFault, HEAD_LEN, Head, MessageKind};
+use giop_messages::{FramingFault, HEAD_LEN, Head, MessageKind, message_id};
 use std::alloc::{AllocError, Global};
 
 /// What becomes of a stream by what stands at its front.
@@ -33,12 +33,11 @@ pub(crate) enum Turn {
 }
 
 /// Whether a message has the number.
-fn has_id(id: u64, head: &Head, message: &[u8]) -> bool
-    requires sent { IsSent head.now message.now }
-    requires numbered { 4 ≤ head.now.size }
+fn has_id(id: u64, message: &[u8]) -> bool
+    requires { 16 ≤ length message.now }
     ensures { result ≡ nat_eq (id_in message.now) id }
 {
-    u64::from(number(head.order, message.split_at(HEAD_LEN).1)) == id
+    u64::from(message_id(message)) == id
 }
 
 /// Takes a reply, or the first piece of one.
@@ -58,10 +57,10 @@ fn take_reply(
     if head.size < 4 {
         return Ok(Turn::Breaks(FramingFault::BadHead));
     }
-    if !has_id(id, head, message) {
+    if !has_id(id, message) {
         return Ok(Turn::Passes { run, len });
     }
-    if run.is_some() || (head.goes_on && is_cut(head)) {
+    if run.is_some() || (head.goes_on && head.is_cut()) {
         return Ok(Turn::Breaks(FramingFault::BadFragment));
     }
     let reply = SentReply::begin(alloc, message)?;
@@ -87,7 +86,7 @@ fn take_fragment(
     if head.size < 4 {
         return Ok(Turn::Breaks(FramingFault::BadFragment));
     }
-    if !has_id(id, head, message) {
+    if !has_id(id, message) {
         return Ok(Turn::Passes { run, len });
     }
     let Some(mut reply) = run else {

@@ -7,7 +7,7 @@ use Rattle.type_model.specs.ModelRules.{Parts}
 use Rattle.giop_types.specs.TapeParts.{counted}
 use Rattle.giop_types.specs.GiopNodes.{giop_nodes, id_argument_node}
 use Rattle.giop_messages.specs.Messages.{Asked}
-use Rattle.broker_answers.specs.declared.exception.SystemException.TheVariants.{BadOperation, Marshal}
+use Rattle.broker_answers.specs.declared.exception.BrokerException.TheVariants.{BadOperation, Marshal}
 use Rattle.broker_answers.specs.declared.finding.AskedCall.{AskedCall}
 use Rattle.broker_answers.specs.declared.finding.Finding.{Finding as Found}
 use Rattle.broker_answers.specs.declared.finding.Finding.TheVariants as found

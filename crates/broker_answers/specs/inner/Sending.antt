@@ -4,7 +4,7 @@ use Rattle.type_model.specs.declared.signatures.Exception.{Exception}
 use Rattle.type_model.specs.declared.signatures.Operation.{Operation}
 use Rattle.type_model.specs.ModelRules.{Parts}
 use Rattle.giop_types.specs.TapeParts.{IsCounted}
-use Rattle.broker_answers.specs.declared.exception.SystemException.TheVariants.{Internal, Unknown}
+use Rattle.broker_answers.specs.declared.exception.BrokerException.TheVariants.{Internal, Unknown}
 use Rattle.giop_messages.specs.Messages.{Asked}
 use Rattle.broker_answers.specs.Replies.{Reply, IsSent, IsThrown, IsUnsendable, exception_reply, throw}
 

@@ -9,7 +9,6 @@ ghost use Rattle.giop.specs.inner.Tapes.{IsTapeAt};
 use crate::gap::gap_at;
 use crate::reading::message::Reading;
 use giop_messages::HEAD_LEN;
-use program_runner::RunFault;
 use std::alloc::AllocError;
 
 impl<'r, 'b> Reading<'r, 'b> {
@@ -28,13 +27,10 @@ impl<'r, 'b> Reading<'r, 'b> {
         let order = self.head.order;
         match self
             .types
-            .read(self.alloc, node, order, HEAD_LEN as u64, behind)
+            .find(self.alloc, node, order, HEAD_LEN as u64, behind)?
         {
-            Ok((tape, taken)) => Ok(Some((tape, HEAD_LEN + taken))),
-            Err(fault) => match fault {
-                RunFault::NoMemory => Err(AllocError),
-                _ => Ok(None),
-            },
+            Some((tape, taken)) => Ok(Some((tape, HEAD_LEN + taken))),
+            None => Ok(None),
         }
     }
 }

@@ -2,23 +2,12 @@
 use Rattle.std.specs.Prelude.{◌≡◌, ℕ, ◌+◌, ◌≤◌, false, List, length, Ok}
 use Rattle.giop_messages.specs.declared.head.MessageKind.TheVariants.{Reply}
 use Rattle.giop_messages.specs.declared.head.Head.{Head}
-use Rattle.giop_messages.specs.Heads.{max_size}
 use Rattle.giop_messages.specs.Framing.{breaks_run}
-use Rattle.giop_messages.specs.Runs.{IsMessage}
 use Rattle.reply_streams.specs.Heads.{reply_head}
 
 -- a whole message, and what its head says to a client
 abbrev pub IsSent : Head → List ℕ → Type 0
 IsSent head message = (reply_head message ≡ Ok head) × (length message ≡ 12 + head.size)
-
--- a whole reply that nothing follows, with a number
-pub record IsReplyRun (octets : List ℕ) : Type 0 where
-  pub numbered : 16 ≤ length octets
-  pub sized : length octets ≤ 12 + max_size
-  pub head : Head
-  pub is : IsMessage head octets
-  pub reply : head.kind ≡ Reply
-  pub alone : head.goes_on ≡ false
 
 -- a whole reply with a number, or its first piece
 pub record IsFirst (message : List ℕ) : Type 0 where

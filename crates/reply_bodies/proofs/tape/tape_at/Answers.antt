@@ -1,14 +1,12 @@
-use Rattle.program_runner.proofs.Refusals.{not_for_memory}
-use Rattle.reply_bodies.proofs.Faults.{none_read, tape_read}
+use Rattle.reply_bodies.proofs.Faults.{none_read, none_then, some_then, tape_read}
 use Rattle.reply_bodies.proofs.tape.tape_at.Goals as goal
 
-pub returns-in-Ok-clause-found : goal.returns-in-Ok-clause-found
-returns-in-Ok-clause-found c =
-    tape_read c.args.octets.now c.args.order c.args.node c.args.place c.in-Ok.tape.items c.in-Ok.field-0-1 c.in-Ok.ensures.found
+pub returns-in-Some-clause-found : goal.returns-in-Some-clause-found
+returns-in-Some-clause-found c =
+    tape_read c.args.octets.now c.args.order c.args.node c.args.place c.in-Some.tape.items c.in-Some.field-0-1
+    (some_then c.in_ok-tape.field-0 _ _ c.in-Some.is c.in_ok-tape.ensures.found)
 
-pub returns-in_default : goal.returns-in_default
-returns-in_default c = record {
-  found = tt;
-  refused = none_read c.args.octets.now c.args.order c.args.node c.args.place
-      (not_for_memory c.in-Err.fault _ c.in_default.not-NoMemory c.in-Err.ensures.refused);
-}
+pub returns-in-None-clause-refused : goal.returns-in-None-clause-refused
+returns-in-None-clause-refused c =
+    none_read c.args.octets.now c.args.order c.args.node c.args.place
+    (none_then c.in_ok-tape.field-0 _ c.in-None.is c.in_ok-tape.ensures.none)

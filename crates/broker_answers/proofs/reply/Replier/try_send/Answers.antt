@@ -3,7 +3,7 @@ use Rattle.type_graph.specs.GraphRules.{IsGraph}
 use Rattle.table_file.specs.Table.{TableParts}
 use Rattle.giop_messages.specs.Messages.{asked_of}
 use Rattle.giop.specs.Made.{given}
-use Rattle.broker_answers.specs.declared.exception.SystemException.TheVariants.{Internal}
+use Rattle.broker_answers.specs.declared.exception.BrokerException.TheVariants.{Internal}
 use Rattle.broker_answers.specs.Replies.{IsSent, exception_reply, reply_of}
 use Rattle.broker_answers.specs.inner.Sending.{IsTried}
 use Rattle.broker_answers.proofs.Cases.{if_ok}

@@ -8,11 +8,11 @@ use Rattle.giop.proofs.giop_calls.Giop.read_frame.Goals.{then-is_fragment-via-th
 pub returns-then-is_fragment-clause-found : goal.returns-then-is_fragment-clause-found
 returns-then-is_fragment-clause-found c =
     part_found (option_map (λ r. r.now) c.args.run) c.args.octets.now c.split_at.result.0.now c.args.frame.now
-    c.id_of.result c.is_fragment-is_fragment.result c.requires c.is_fragment-is_fragment.ensures
+    c.message_id.result c.is_fragment-is_fragment.result c.requires c.is_fragment-is_fragment.ensures
     (elim c.then-is_fragment.branch [
       | then-is_fragment-via-then-is_fragment w ↦ inl w.if-is_fragment.true
       | then-is_fragment-via-else-is_fragment+then-frame w ↦ inr w.if-frame.true
-    ]) c.split_at.ensures.front c.id_of.ensures
+    ]) c.split_at.ensures.front c.message_id.ensures
 
 pub returns-in-Some-clause-found : goal.returns-in-Some-clause-found
 returns-in-Some-clause-found c =

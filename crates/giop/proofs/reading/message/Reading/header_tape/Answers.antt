@@ -1,16 +1,15 @@
+use Rattle.giop.proofs.Contents.{none_then, some_then}
 use Rattle.giop.proofs.Places.{tape_found, no_tape}
-use Rattle.program_runner.proofs.Refusals.{not_for_memory}
 use Rattle.giop.proofs.reading.message.Reading.header_tape.Goals as goal
 
-pub returns-in-Ok-clause-found : goal.returns-in-Ok-clause-found
-returns-in-Ok-clause-found c =
+pub returns-in-Some-clause-found : goal.returns-in-Some-clause-found
+returns-in-Some-clause-found c =
     tape_found c.args.self.now.octets.now c.split_at.result.1.now c.args.self.now.head.now.order c.args.node
-    c.in-Ok.tape.items c.in-Ok.taken c.split_at.ensures.back c.in-Ok.ensures.found c.in-Ok.ensures.within
+    c.in-Some.tape.items c.in-Some.taken c.split_at.ensures.back
+    (some_then c.in_ok-tape.field-0 _ _ c.in-Some.is c.in_ok-tape.ensures.found)
+    (some_then c.in_ok-tape.field-0 _ _ c.in-Some.is c.in_ok-tape.ensures.within)
 
-pub returns-in_default : goal.returns-in_default
-returns-in_default c = record {
-  found = tt;
-  within = tt;
-  refused = no_tape c.args.self.now.octets.now c.split_at.result.1.now c.args.self.now.head.now.order c.args.node
-      c.split_at.ensures.back (not_for_memory c.in-Err.fault _ c.in_default.not-NoMemory c.in-Err.ensures.refused);
-}
+pub returns-in-None-clause-refused : goal.returns-in-None-clause-refused
+returns-in-None-clause-refused c =
+    no_tape c.args.self.now.octets.now c.split_at.result.1.now c.args.self.now.head.now.order c.args.node
+    c.split_at.ensures.back (none_then c.in_ok-tape.field-0 _ c.in-None.is c.in_ok-tape.ensures.none)
