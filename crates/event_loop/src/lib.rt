@@ -11,5 +11,5 @@ mod slot;
 mod sweep;
 
 pub use connection::Connection;
-pub use listener::{End, Limit, Listener};
+pub use listener::{End, Limit, Listener, PolledListener};
 pub use serving::{Interruption, MAX_SWEEPS, serve_at_once};

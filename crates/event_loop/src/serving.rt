@@ -8,7 +8,7 @@ ghost use Rattle.event_loop.specs.Visits.{AreServedBy};
 ghost use Rattle.event_loop.specs.declared.serving.Interruption.TheVariants.{Unaccepted, Endless};
 ghost use Rattle.event_loop.specs.inner.Going.{GoesOn, IsUnderWay, WereAsked};
 
-use crate::listener::{End, Listener};
+use crate::listener::{End, PolledListener};
 use crate::slot::{Slot, closed};
 use crate::sweep::{let_go, sweep};
 use iiop_broker::laws::steps_are_the_talk;
@@ -28,7 +28,7 @@ pub enum Interruption {
 pub const MAX_SWEEPS: u64 = 18_446_744_073_709_551_615;
 
 /// Has the next connection begin, if one comes: whether one came.
-fn admit<S: Servant, L: Listener>(
+fn admit<S: Servant, L: PolledListener>(
     alloc: Global,
     broker: &mut Broker<S>,
     listener: &mut L,
@@ -86,7 +86,7 @@ struct Progress {
 }
 
 /// Has the next connection begin, if there is a place for one and it comes: whether one came.
-fn admit_next<S: Servant, L: Listener>(
+fn admit_next<S: Servant, L: PolledListener>(
     alloc: Global,
     broker: &mut Broker<S>,
     listener: &mut L,
@@ -142,7 +142,7 @@ fn admit_next<S: Servant, L: Listener>(
 /// # Errors
 /// `Unaccepted` where a connection can't be accepted and none is there. `Endless` after 2 ^ 64 - 1
 /// rounds.
-pub fn serve_at_once<S: Servant, L: Listener>(
+pub fn serve_at_once<S: Servant, L: PolledListener>(
     alloc: Global,
     broker: &mut Broker<S>,
     listener: &mut L,

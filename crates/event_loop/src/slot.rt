@@ -5,6 +5,7 @@ ghost use Rattle.giop_messages.specs.Messages.{Closes, Says};
 ghost use Rattle.broker_answers.specs.Servants.{acts};
 ghost use Rattle.iiop_broker.specs.Listed.{IsThere};
 ghost use Rattle.iiop_broker.specs.Outcomes.{Ends};
+ghost use Rattle.event_loop.specs.Listening.{Stays};
 ghost use Rattle.event_loop.specs.Telling.{IsAsked};
 ghost use Rattle.event_loop.specs.Visits.{Gone, IsShutAt};
 ghost use Rattle.event_loop.specs.declared.listener.End.{End};
@@ -15,7 +16,7 @@ ghost use Rattle.event_loop.specs.inner.Waits.{unwaited};
 
 use crate::connection::Connection;
 use crate::limits::{Standing, Waits};
-use crate::listener::{End, Limit, Listener};
+use crate::listener::{End, Limit, PolledListener};
 use crate::reading::read_within;
 use iiop_broker::{Broker, BrokerFault, Event, Servant};
 use std::alloc::Global;
@@ -225,7 +226,7 @@ impl<C: Connection> Slot<C> {
 }
 
 /// Tells it the time: a limit that it passed, if it did.
-fn ask<L: Listener>(
+fn ask<L: PolledListener>(
     listener: &mut L,
     slot: &mut Slot<L::Connection>,
     standing: Standing,
@@ -233,11 +234,8 @@ fn ask<L: Listener>(
 ) -> Option<Limit>
     ensures asked { HasAsked idle (L.looks listener.old) slot.old standing slot.new result }
     ensures came { L.came listener.new ≡ L.came listener.old }
-    ensures ended { (all : List (ℕ × Gone)) → L.ended listener.old all → L.ended listener.new all }
-    ensures there { L.there listener.new ≡ L.there listener.old }
-    ensures most { L.most listener.new ≡ L.most listener.old }
     ensures port { L.port listener.new ≡ L.port listener.old }
-    ensures looks { L.looks listener.new ≡ L.looks listener.old }
+    ensures stays { Stays L.ended L.there L.most L.looks listener.old listener.new }
 {
     let now = listener.time(&mut slot.connection);
     slot.waits = slot.waits.at(standing, now);
@@ -246,7 +244,7 @@ fn ask<L: Listener>(
 
 /// What becomes of a connection that isn't over, which went so in its turn: it is over where it is
 /// closed and all is sent, or passed a limit.
-fn judge<S: Servant, L: Listener>(
+fn judge<S: Servant, L: PolledListener>(
     broker: &Broker<S>,
     listener: &mut L,
     slot: &mut Slot<L::Connection>,
@@ -256,11 +254,8 @@ fn judge<S: Servant, L: Listener>(
     requires going { (end : End) → course ≢ Over end }
     ensures judged { IsJudged idle (L.looks listener.old) broker.now.world.there slot.old course slot.new result }
     ensures came { L.came listener.new ≡ L.came listener.old }
-    ensures ended { (all : List (ℕ × Gone)) → L.ended listener.old all → L.ended listener.new all }
-    ensures there { L.there listener.new ≡ L.there listener.old }
-    ensures most { L.most listener.new ≡ L.most listener.old }
     ensures port { L.port listener.new ≡ L.port listener.old }
-    ensures looks { L.looks listener.new ≡ L.looks listener.old }
+    ensures stays { Stays L.ended L.there L.most L.looks listener.old listener.new }
 {
     if slot.is_sent() && broker.is_closed(slot.number()) {
         return Course::Over(End::Finished);
@@ -274,7 +269,7 @@ fn judge<S: Servant, L: Listener>(
 
 /// Serves the connection as far as it goes at once; it is over too where it passed a limit, unless
 /// that is 0.
-pub(crate) fn serve<S: Servant, L: Listener>(
+pub(crate) fn serve<S: Servant, L: PolledListener>(
     broker: &mut Broker<S>,
     listener: &mut L,
     slot: &mut Slot<L::Connection>,
@@ -293,11 +288,8 @@ pub(crate) fn serve<S: Servant, L: Listener>(
     ensures in_turn { 0 < idle → ((end : End) → result ≢ Over end)
         → IsAsked (L.looks listener.old) slot.old.trace → IsAsked (L.looks listener.old + 1) slot.new.trace }
     ensures came { L.came listener.new ≡ L.came listener.old }
-    ensures ended { (all : List (ℕ × Gone)) → L.ended listener.old all → L.ended listener.new all }
-    ensures there { L.there listener.new ≡ L.there listener.old }
-    ensures most { L.most listener.new ≡ L.most listener.old }
     ensures port { L.port listener.new ≡ L.port listener.old }
-    ensures looks { L.looks listener.new ≡ L.looks listener.old }
+    ensures stays { Stays L.ended L.there L.most L.looks listener.old listener.new }
     ensures same { broker.new.served ≡ broker.old.served }
     ensures as_long { length buffer.new ≡ length buffer.old }
 {

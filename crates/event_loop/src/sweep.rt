@@ -10,12 +10,12 @@ ghost use Rattle.event_loop.specs.declared.slot.Course.TheVariants.{Over};
 ghost use Rattle.event_loop.specs.inner.Going.{GoesOn, IsUnderWay, WereAsked, place_behind};
 ghost use Rattle.event_loop.specs.inner.Turns.{IsHandedBack};
 
-use crate::listener::{End, Listener};
+use crate::listener::{End, PolledListener};
 use crate::slot::{Course, Slot, serve};
 use iiop_broker::{Broker, Event, Servant};
 
 /// Lets go of a connection.
-pub(crate) fn let_go<S: Servant, L: Listener>(
+pub(crate) fn let_go<S: Servant, L: PolledListener>(
     broker: &mut Broker<S>,
     listener: &mut L,
     slot: Slot<L::Connection>,
@@ -43,7 +43,7 @@ pub(crate) fn let_go<S: Servant, L: Listener>(
 }
 
 /// Serves the connection at a place as far as it goes at once, and lets go of it where it is over.
-fn serve_at<S: Servant, L: Listener>(
+fn serve_at<S: Servant, L: PolledListener>(
     broker: &mut Broker<S>,
     listener: &mut L,
     slots: &mut Vec<Slot<L::Connection>>,
@@ -85,7 +85,7 @@ fn serve_at<S: Servant, L: Listener>(
 
 /// Serves each connection as far as it goes at once, and lets go of those that are over, also where a
 /// limit is passed, unless that is 0: whether anything moved.
-pub(crate) fn sweep<S: Servant, L: Listener>(
+pub(crate) fn sweep<S: Servant, L: PolledListener>(
     broker: &mut Broker<S>,
     listener: &mut L,
     slots: &mut Vec<Slot<L::Connection>>,

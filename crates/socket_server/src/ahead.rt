@@ -3,6 +3,7 @@
 ghost use Rattle.std.specs.Prelude.{◌≡◌, ◌≤◌, length, IfOk, IfSome};
 
 use crate::moving::read_now;
+use crate::tally::Tally;
 use iiop_broker::Failed;
 use std::io::Read;
 
@@ -40,7 +41,7 @@ impl Ahead {
     }
 
     /// Reads what is there, and more ahead where little is asked for; None where a call would wait.
-    pub(crate) fn read<S: Read>(
+    fn read_on<S: Read>(
         &mut self,
         stream: &mut S,
         buffer: &mut [u8],
@@ -54,14 +55,28 @@ impl Ahead {
         if buffer.len() >= AHEAD {
             return read_now(stream, buffer);
         }
-        match read_now(stream, &mut self.octets) {
-            Ok(Some(n)) => {
-                self.at = 0;
-                self.stop = n;
-                Ok(Some(self.give(buffer)))
-            }
-            Ok(None) => Ok(None),
-            Err(failed) => Err(failed),
+        let Some(n) = read_now(stream, &mut self.octets)? else {
+            return Ok(None);
+        };
+        self.at = 0;
+        self.stop = n;
+        Ok(Some(self.give(buffer)))
+    }
+
+    /// The same, and counts the messages of what it gives.
+    pub(crate) fn read<S: Read>(
+        &mut self,
+        stream: &mut S,
+        buffer: &mut [u8],
+        tally: &mut Tally,
+    ) -> Result<Option<usize>, Failed>
+        ensures room { length buffer.new ≡ length buffer.old }
+        ensures within { IfOk result (λ got. IfSome got (λ n. n ≤ length buffer.old)) }
+    {
+        let got = self.read_on(stream, buffer)?;
+        if let Some(n) = got {
+            tally.see(buffer.split_at(n).0);
         }
+        Ok(got)
     }
 }

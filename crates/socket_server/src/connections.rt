@@ -1,14 +1,24 @@
 //! Connections served one after the other.
 
-ghost use Rattle.std.specs.Prelude.{◌≡◌, [], List, true, IfErr, OnErr, OnOk};
+ghost use Rattle.std.specs.Prelude.{◌≡◌, [], Bool, List, true, IsTrue, OnErr, OnOk};
 ghost use Rattle.broker_answers.specs.Servants.{acts};
 ghost use Rattle.socket_server.specs.Visits.{AreCut, AreServed, IsOneMore, IsShutAt, Went};
 
-use crate::listener::{Closing, Listener};
+use crate::listener::{BlockingListener, Closing};
 use iiop_broker::{Broker, Failed, Servant, StreamFault, serve_stream};
 
 /// The number of the connection that is served.
 const CONNECTION: u32 = 1;
+
+/// Whether octets may still move on a connection whose stream ended so: no call failed.
+pub(crate) fn is_sound(end: Result<(), StreamFault>) -> bool
+    ensures { (shut : Bool) → (IsTrue result → shut ≡ true) → IsShutAt end shut }
+{
+    match end {
+        Err(StreamFault::ReadFailed) | Err(StreamFault::WriteFailed { .. }) => false,
+        _ => true,
+    }
+}
 
 /// Shuts the side that is written to behind a stream that ended so, unless a call failed.
 fn shut_behind<W: Closing>(writer: &mut W, end: Result<(), StreamFault>)
@@ -16,16 +26,13 @@ fn shut_behind<W: Closing>(writer: &mut W, end: Result<(), StreamFault>)
     ensures written { W.written writer.new ≡ W.written writer.old }
     ensures failure { W.failure writer.new ≡ W.failure writer.old }
 {
-    match end {
-        Ok(()) => writer.shut(),
-        Err(StreamFault::ReadFailed) => {}
-        Err(StreamFault::WriteFailed { sent: _ }) => {}
-        Err(_) => writer.shut(),
+    if is_sound(end) {
+        writer.shut();
     }
 }
 
 /// Serves the next connection to its end, whether it ends well or breaks off, and hands it back.
-fn serve_next<S: Servant, L: Listener>(
+fn serve_next<S: Servant, L: BlockingListener>(
     broker: &mut Broker<S>,
     listener: &mut L,
 ) -> Result<(), Failed>
@@ -55,7 +62,7 @@ fn serve_next<S: Servant, L: Listener>(
 ///
 /// # Errors
 /// The next connection can't be accepted. Those before are served.
-pub fn serve_connections<S: Servant, L: Listener>(
+pub fn serve_connections<S: Servant, L: BlockingListener>(
     broker: &mut Broker<S>,
     listener: &mut L,
     count: u32,
@@ -74,10 +81,7 @@ pub fn serve_connections<S: Servant, L: Listener>(
     ensures port { L.port listener.new ≡ L.port listener.old }
 {
     for _ in 0..count {
-        match serve_next(broker, listener) {
-            Ok(()) => {}
-            Err(failed) => return Err(failed),
-        }
+        serve_next(broker, listener)?;
     }
     Ok(())
 }

@@ -1,8 +1,10 @@
 //! Why serving ends early.
 
 ghost use Rattle.std.specs.Prelude.{◌≡◌};
-ghost use Rattle.socket_server.specs.declared.fault.ServeFault.TheVariants.{NoMemory};
+ghost use Rattle.socket_server.specs.declared.fault.ServeFault.TheVariants.{NoMemory, Socket};
 
+use event_loop::Interruption;
+use iiop_broker::Failed;
 use std::alloc::AllocError;
 use thiserror::Error;
 
@@ -30,5 +32,21 @@ impl<'a> From<AllocError> for ServeFault<'a> {
 
     fn from(_error: AllocError) -> ServeFault<'a> {
         ServeFault::NoMemory
+    }
+}
+
+impl<'a> From<Failed> for ServeFault<'a> {
+    ghost from_gives = { λ _ fault. fault ≡ Socket };
+
+    fn from(_failed: Failed) -> ServeFault<'a> {
+        ServeFault::Socket
+    }
+}
+
+impl<'a> From<Interruption> for ServeFault<'a> {
+    ghost from_gives = { λ _ fault. fault ≡ Socket };
+
+    fn from(_interruption: Interruption) -> ServeFault<'a> {
+        ServeFault::Socket
     }
 }

@@ -25,7 +25,7 @@ mod totals;
 pub use announcing::serving_line;
 pub use connections::serve_connections;
 pub use fault::ServeFault;
-pub use listener::{Closing, Listener};
+pub use listener::{BlockingListener, Closing};
 pub use loopback::Loopback;
 pub use options::ServeOptions;
 pub use polled_loopback::PolledLoopback;

@@ -1,9 +1,10 @@
-//! Where connections come from, and to which they are handed back.
+//! Where connections come from with calls that wait, and to which they are handed back.
 
-ghost use Rattle.std.specs.Prelude.{◌≡◌, ◌∷◌, ◌++◌, [], ℕ, Bool, List, Option, Some, true, false, IfOk, OnErr, OnOk};
+ghost use Rattle.std.specs.Prelude.{◌≡◌, ◌∷◌, ◌++◌, [], Bool, List, true, false, IfOk, OnErr};
 ghost use Rattle.iiop_broker.specs.Outcomes.{Ends, ends};
 ghost use Rattle.socket_server.specs.Visits.{IsShutAt, Went, went_as};
 
+use event_loop::Listener;
 use iiop_broker::{Failed, Input, Output, StreamFault};
 
 /// The side of a connection that is written to, and can be shut. It tells whether it is.
@@ -17,44 +18,28 @@ pub trait Closing: Output {
         ensures failure { Self.failure self.new ≡ Self.failure self.old };
 }
 
-/// Where connections come from, one after the other. It tells of each connection that came what its
-/// reader and its writer told then, which list of those that were handed back it may have, the port
-/// that is listened on, and whether a call has failed.
-pub trait Listener {
+/// Where connections come from, one after the other, with calls that wait. It tells besides which
+/// list of those that were handed back it may have.
+pub trait BlockingListener: Listener {
     type Reader: Input + Drop;
 
     type Writer: Closing + Drop;
 
-    ghost came: { Self → List Ends };
-
     ghost went: { Self → List Went → Type 0 };
-
-    ghost port: { Self → Option ℕ };
-
-    ghost failure: { Self → Bool };
-
-    /// Has connections come to the port of the number. None has come by that.
-    ///
-    /// # Errors
-    /// The port can't be listened on.
-    fn listen(&mut self, number: u16) -> Result<(), Failed>
-        ensures came { came self.new ≡ came self.old }
-        ensures went { (all : List Went) → went self.old all → went self.new all }
-        ensures port { OnOk result (port self.new ≡ Some number) };
 
     /// The next connection: its reader and its writer, of which no call has failed.
     ///
     /// # Errors
     /// No connection came.
     fn accept(&mut self) -> Result<(Self::Reader, Self::Writer), Failed>
-        ensures came { IfOk result (λ it. came self.new ≡ came self.old
+        ensures came { IfOk result (λ it. Self.came self.new ≡ Self.came self.old
             ++ ends (Self.Reader.left it.0) (Self.Writer.written it.1) (Self.Reader.failure it.0) (Self.Writer.failure it.1) ∷ []) }
         ensures reading { IfOk result (λ it. Self.Reader.failure it.0 ≡ false) }
         ensures writing { IfOk result (λ it. Self.Writer.failure it.1 ≡ false) }
-        ensures kept { OnErr result (came self.new ≡ came self.old) }
-        ensures failed { OnErr result (failure self.new ≡ true) }
+        ensures kept { OnErr result (Self.came self.new ≡ Self.came self.old) }
+        ensures failed { OnErr result (Self.failure self.new ≡ true) }
         ensures went { (all : List Went) → went self.old all → went self.new all }
-        ensures port { port self.new ≡ port self.old };
+        ensures port { Self.port self.new ≡ Self.port self.old };
 
     /// Takes back the connection that came last, and how its stream ended. It is shut, unless a call
     /// on it failed; what still comes may be read, so that the last answer isn't lost.
@@ -65,9 +50,12 @@ pub trait Listener {
         end: Result<(), StreamFault>,
     )
         requires { IsShutAt end (Self.Writer.shut writer) }
-        ensures came { came self.new ≡ came self.old }
+        ensures came { Self.came self.new ≡ Self.came self.old }
         ensures went { (all : List Went) → went self.old all → went self.new (all
             ++ went_as (ends (Self.Reader.left reader) (Self.Writer.written writer) (Self.Reader.failure reader)
             (Self.Writer.failure writer)) end ∷ []) }
-        ensures port { port self.new ≡ port self.old };
+        ensures port { Self.port self.new ≡ Self.port self.old };
+
+    ghost listening: { (before after : Self) → Self.keeps before after → (all : List Went) → went before all
+        → went after all };
 }

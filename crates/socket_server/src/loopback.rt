@@ -3,11 +3,13 @@
 ghost use Rattle.std.specs.Prelude.{◌≡◌, ⊤, false, replicate};
 ghost use Rattle.socket_server.specs.Visits.{untold};
 
+use crate::connections::is_sound;
 use crate::leaving::let_go;
-use crate::listener::Listener;
+use crate::listener::BlockingListener;
 use crate::misses::{Misses, PAUSE, TRIES};
 use crate::side::Side;
 use crate::totals::Totals;
+use event_loop::Listener;
 use iiop_broker::{Failed, StreamFault};
 use std::net::{Net, OpenListener, OpenStream, TcpListener};
 use std::thread;
@@ -44,14 +46,6 @@ impl<'r, R: Net + Clock + Eprint> Loopback<'r, R> {
             count: 0,
             failed: false,
         }
-    }
-}
-
-/// Whether octets may still move on a connection whose stream ended so.
-fn is_sound(end: Result<(), StreamFault>) -> bool {
-    match end {
-        Err(StreamFault::ReadFailed) | Err(StreamFault::WriteFailed { .. }) => false,
-        _ => true,
     }
 }
 
@@ -110,17 +104,13 @@ impl<'r, R: Net + Clock + Eprint> Loopback<'r, R> {
 }
 
 impl<'r, R: Net + Clock + Eprint> Listener for Loopback<'r, R> {
-    type Reader = Side<R::Stream>;
-
-    type Writer = Side<R::Stream>;
-
     ghost came = { λ loopback. replicate loopback.count untold };
-
-    ghost went = { λ loopback all. ⊤ };
 
     ghost port = { λ loopback. loopback.port };
 
     ghost failure = { λ loopback. loopback.failed };
+
+    ghost keeps = { λ before after. ⊤ };
 
     fn listen(&mut self, number: u16) -> Result<(), Failed> {
         match TcpListener::bind(self.net, ("127.0.0.1", number)) {
@@ -132,6 +122,16 @@ impl<'r, R: Net + Clock + Eprint> Listener for Loopback<'r, R> {
             Err(_) => Err(Failed),
         }
     }
+}
+
+impl<'r, R: Net + Clock + Eprint> BlockingListener for Loopback<'r, R> {
+    type Reader = Side<R::Stream>;
+
+    type Writer = Side<R::Stream>;
+
+    ghost went = { λ loopback all. ⊤ };
+
+    ghost listening = { λ before after keeps all told. told };
 
     fn accept(&mut self) -> Result<(Side<R::Stream>, Side<R::Stream>), Failed> {
         match (self.wait(), self.count.checked_add(1)) {

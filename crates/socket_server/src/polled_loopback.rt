@@ -8,7 +8,7 @@ use crate::misses::{Misses, PAUSE};
 use crate::moving::TRIES;
 use crate::polled_stream::PolledStream;
 use crate::totals::Totals;
-use event_loop::{End, Listener};
+use event_loop::{End, Listener, PolledListener};
 use iiop_broker::Failed;
 use mio::net::{TcpListener, TcpStream};
 use mio::{Events, Interest, Poll, Token};
@@ -210,21 +210,14 @@ impl<'r, R: Net + Clock + Eprint> PolledLoopback<'r, R> {
 }
 
 impl<'r, R: Net + Clock + Eprint> Listener for PolledLoopback<'r, R> {
-    type Connection = PolledStream;
-
     ghost came = { λ it. replicate it.count untold };
-
-    ghost ended = { λ it all. ⊤ };
-
-    ghost there = { λ it. it.there };
-
-    ghost most = { λ it. it.most };
 
     ghost port = { λ it. it.number };
 
     ghost failure = { λ it. it.failed };
 
-    ghost looks = { λ it. it.looks };
+    ghost keeps = { λ before after. (after.there ≡ before.there) × (after.most ≡ before.most)
+        × (after.looks ≡ before.looks) };
 
     fn listen(&mut self, number: u16) -> Result<(), Failed> {
         let port = Port::open(self.net, number)?;
@@ -232,6 +225,25 @@ impl<'r, R: Net + Clock + Eprint> Listener for PolledLoopback<'r, R> {
         self.number = Some(number);
         Ok(())
     }
+}
+
+impl<'r, R: Net + Clock + Eprint> PolledListener for PolledLoopback<'r, R> {
+    type Connection = PolledStream;
+
+    ghost ended = { λ it all. ⊤ };
+
+    ghost there = { λ it. it.there };
+
+    ghost most = { λ it. it.most };
+
+    ghost looks = { λ it. it.looks };
+
+    ghost listening = { λ before after keeps. record {
+      ended = λ all told. told;
+      there_is = keeps.0;
+      most_is = keeps.1;
+      looks_are = keeps.2;
+    } };
 
     fn accept(&mut self) -> Result<Option<PolledStream>, Failed> {
         if self.misses.is_fresh(self.net) {

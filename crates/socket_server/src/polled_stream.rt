@@ -53,34 +53,19 @@ impl Connection for PolledStream {
     ghost shut = { λ one. one.is_shut };
 
     fn read(&mut self, buffer: &mut [u8]) -> Result<Option<usize>, Failed> {
-        match self.ahead.read(&mut self.stream, buffer) {
-            Ok(Some(n)) => {
-                self.read.see(buffer.split_at(n).0);
-                Ok(Some(n))
-            }
-            Ok(None) => Ok(None),
-            Err(Failed) => {
-                self.unread = true;
-                Err(Failed)
-            }
+        let got = self.ahead.read(&mut self.stream, buffer, &mut self.read);
+        if got.is_err() {
+            self.unread = true;
         }
+        got
     }
 
     fn write(&mut self, octets: &[u8]) -> Result<Option<usize>, Failed> {
-        match write_now(&mut self.stream, octets) {
-            Ok(Some(n)) => {
-                self.written.see(octets.split_at(n).0);
-                if n == 0 && !octets.is_empty() {
-                    self.unwritten = true;
-                }
-                Ok(Some(n))
-            }
-            Ok(None) => Ok(None),
-            Err(Failed) => {
-                self.unwritten = true;
-                Err(Failed)
-            }
+        let took = write_now(&mut self.stream, octets, &mut self.written);
+        if took.is_err() {
+            self.unwritten = true;
         }
+        took
     }
 
     fn shut(&mut self) {

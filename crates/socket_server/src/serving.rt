@@ -4,13 +4,13 @@ ghost use Rattle.std.specs.Prelude.{◌≡◌, ◌*◌, [], ⊤, replicate, IfEr
 ghost use Rattle.std.specs.Io.KnownBytes.{Appends};
 ghost use Rattle.broker_answers.specs.Servants.{acts};
 ghost use Rattle.socket_server.specs.Lines.{serving};
-ghost use Rattle.socket_server.specs.Serving.{IsDone, IsDoneTogether, IsFaultOf, IsHeardOrNothing, IsLineOrNothing, IsOfObject, IsServed, IsUnprinted, places_of};
+ghost use Rattle.socket_server.specs.Serving.{IsDone, IsDoneTogether, IsFaultOf, IsHeardOrNothing, IsLineOrNothing, IsOfObject, IsServed, places_of};
 ghost use Rattle.socket_server.specs.Visits.{AreServed, untold};
 
-use crate::announcing::serving_line;
+use crate::announcing::{announce, serving_line};
 use crate::connections::serve_connections;
 use crate::fault::ServeFault;
-use crate::listener::Listener;
+use crate::listener::BlockingListener;
 use crate::loopback::Loopback;
 use crate::memory::keep_memory;
 use crate::object::broker_of;
@@ -25,34 +25,9 @@ use std::io::Write;
 use std::net::Net;
 use std::time::Clock;
 
-/// Listens, and says so.
-fn announce<'a, L: Listener, W: Write>(
-    alloc: Global,
-    listener: &mut L,
-    out: &mut W,
-    port: u16,
-) -> Result<(), ServeFault<'a>>
-    requires none { L.went listener.old [] }
-    ensures none { L.went listener.new [] }
-    ensures came { L.came listener.new ≡ L.came listener.old }
-    ensures listens { OnOk result (L.port listener.new ≡ Some port) }
-    ensures printed { OnOk result (Appends (W.contents out.old) (W.contents out.new) (serving port)) }
-    ensures unprinted { IfErr result
-        (IsUnprinted port (L.port listener.new) (W.contents out.old) (W.contents out.new)) }
-{
-    let line = serving_line(alloc, port)?;
-    if listener.listen(port).is_err() {
-        return Err(ServeFault::Socket);
-    }
-    if out.write_all(line.as_bytes()).is_err() || out.flush().is_err() {
-        return Err(ServeFault::Unwritten);
-    }
-    Ok(())
-}
-
 /// Listens, says so, and serves connections by a broker. It stands apart from the function that owns the broker, of which
 /// the prover then sees nothing here but the contract.
-fn serve_by<'a, S: Servant, L: Listener, W: Write>(
+fn serve_by<'a, S: Servant, L: BlockingListener, W: Write>(
     alloc: Global,
     broker: &mut Broker<S>,
     listener: &mut L,
@@ -71,14 +46,10 @@ fn serve_by<'a, S: Servant, L: Listener, W: Write>(
         (IsHeardOrNothing options.now.port (L.port listener.new) (W.contents out.old) (W.contents out.new)) }
     ensures later { IfErr result (λ fault. IsOfObject fault → ⊥) }
 {
-    match announce(alloc, listener, out, options.port) {
-        Ok(()) => {}
-        Err(fault) => return Err(fault),
-    }
-    match serve_connections(broker, listener, options.connections) {
-        Ok(()) => Ok(()),
-        Err(_) => Err(ServeFault::Socket),
-    }
+    let line = serving_line(alloc, options.port)?;
+    announce(listener, out, options.port, line.as_str())?;
+    serve_connections(broker, listener, options.connections)?;
+    Ok(())
 }
 
 /// Serves an object of a table's interface to connections that a listener has come, one after the
@@ -89,7 +60,7 @@ fn serve_by<'a, S: Servant, L: Listener, W: Write>(
 /// `BadObject` and `NoInterface` before anything is listened on. `Socket` where the port can't be
 /// listened on or a connection can't be accepted, `Unwritten` where the line can't be printed.
 /// Want of memory.
-pub fn serve_at<'a, L: Listener, W: Write>(
+pub fn serve_at<'a, L: BlockingListener, W: Write>(
     alloc: Global,
     listener: &mut L,
     out: &mut W,

@@ -5,13 +5,13 @@ ghost use Rattle.std.specs.Io.KnownBytes.{Appends};
 ghost use Rattle.broker_answers.specs.Servants.{acts};
 ghost use Rattle.event_loop.specs.Visits.{AreServedBy};
 ghost use Rattle.socket_server.specs.Lines.{serving};
-ghost use Rattle.socket_server.specs.Serving.{IsDoneTogether, IsFaultOf, IsHeardOrNothing, IsLineOrNothing, IsOfObject, IsUnprinted};
+ghost use Rattle.socket_server.specs.Serving.{IsDoneTogether, IsFaultOf, IsHeardOrNothing, IsLineOrNothing, IsOfObject};
 
-use crate::announcing::serving_line;
+use crate::announcing::{announce, serving_line};
 use crate::fault::ServeFault;
 use crate::object::broker_of;
 use crate::options::ServeOptions;
-use event_loop::{Listener, serve_at_once};
+use event_loop::{PolledListener, serve_at_once};
 use iiop_broker::{Broker, Servant};
 use position_checker::Accepted;
 use std::alloc::Global;
@@ -29,37 +29,9 @@ fn places(at_once: u8) -> usize
     }
 }
 
-/// Listens, and says so.
-fn announce<'a, L: Listener, W: Write>(
-    alloc: Global,
-    listener: &mut L,
-    out: &mut W,
-    port: u16,
-) -> Result<(), ServeFault<'a>>
-    requires none { L.ended listener.old [] }
-    ensures none { L.ended listener.new [] }
-    ensures came { L.came listener.new ≡ L.came listener.old }
-    ensures there { L.there listener.new ≡ L.there listener.old }
-    ensures most { L.most listener.new ≡ L.most listener.old }
-    ensures looks { L.looks listener.new ≡ L.looks listener.old }
-    ensures listens { OnOk result (L.port listener.new ≡ Some port) }
-    ensures printed { OnOk result (Appends (W.contents out.old) (W.contents out.new) (serving port)) }
-    ensures unprinted { IfErr result
-        (IsUnprinted port (L.port listener.new) (W.contents out.old) (W.contents out.new)) }
-{
-    let line = serving_line(alloc, port)?;
-    if listener.listen(port).is_err() {
-        return Err(ServeFault::Socket);
-    }
-    if out.write_all(line.as_bytes()).is_err() || out.flush().is_err() {
-        return Err(ServeFault::Unwritten);
-    }
-    Ok(())
-}
-
 /// Listens, says so, and serves connections by a broker. It stands apart from the function that owns
 /// the broker, of which the prover then sees nothing here but the contract.
-fn serve_by<'a, S: Servant, L: Listener, W: Write>(
+fn serve_by<'a, S: Servant, L: PolledListener, W: Write>(
     alloc: Global,
     broker: &mut Broker<S>,
     listener: &mut L,
@@ -86,14 +58,10 @@ fn serve_by<'a, S: Servant, L: Listener, W: Write>(
         (IsHeardOrNothing options.now.port (L.port listener.new) (W.contents out.old) (W.contents out.new)) }
     ensures later { IfErr result (λ fault. IsOfObject fault → ⊥) }
 {
-    match announce(alloc, listener, out, options.port) {
-        Ok(()) => {}
-        Err(fault) => return Err(fault),
-    }
-    match serve_at_once(alloc, broker, listener, options.connections, places, idle) {
-        Ok(()) => Ok(()),
-        Err(_) => Err(ServeFault::Socket),
-    }
+    let line = serving_line(alloc, options.port)?;
+    announce(listener, out, options.port, line.as_str())?;
+    serve_at_once(alloc, broker, listener, options.connections, places, idle)?;
+    Ok(())
 }
 
 /// Serves an object of a table's interface to connections that a listener has come, at most so many
@@ -104,7 +72,7 @@ fn serve_by<'a, S: Servant, L: Listener, W: Write>(
 /// `BadObject` and `NoInterface` before anything is listened on. `Socket` where the port can't be
 /// listened on or a connection can't be accepted, `Unwritten` where the line can't be printed.
 /// Want of memory before anything is served.
-pub fn serve_many_at<'a, L: Listener, W: Write>(
+pub fn serve_many_at<'a, L: PolledListener, W: Write>(
     alloc: Global,
     listener: &mut L,
     out: &mut W,

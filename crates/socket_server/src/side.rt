@@ -45,11 +45,8 @@ impl<S: Read> Input for Side<S> {
     ghost failure = { λ side. side.failed };
 
     fn read(&mut self, buffer: &mut [u8]) -> Result<usize, Failed> {
-        match self.ahead.read(&mut self.stream, buffer) {
-            Ok(Some(n)) => {
-                self.tally.see(buffer.split_at(n).0);
-                Ok(n)
-            }
+        match self.ahead.read(&mut self.stream, buffer, &mut self.tally) {
+            Ok(Some(n)) => Ok(n),
             Ok(None) | Err(_) => {
                 self.failed = true;
                 Err(Failed)
@@ -64,14 +61,8 @@ impl<S: Write> Output for Side<S> {
     ghost failure = { λ side. side.failed };
 
     fn write(&mut self, octets: &[u8]) -> Result<usize, Failed> {
-        match write_now(&mut self.stream, octets) {
-            Ok(Some(n)) => {
-                self.tally.see(octets.split_at(n).0);
-                if n == 0 && !octets.is_empty() {
-                    self.failed = true;
-                }
-                Ok(n)
-            }
+        match write_now(&mut self.stream, octets, &mut self.tally) {
+            Ok(Some(n)) => Ok(n),
             Ok(None) | Err(_) => {
                 self.failed = true;
                 Err(Failed)

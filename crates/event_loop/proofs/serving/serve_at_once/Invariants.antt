@@ -5,9 +5,9 @@ use Rattle.event_loop.proofs.serving.serve_at_once.Given as goal
 
 abbrev pub invariant-loop : goal.invariant-loop
 invariant-loop g l = record {
-  looks : g.L.Listener.looks l.listener ≡ l.counter;
-  filled : g.L.Listener.there l.listener ≡ length l.slots.items;
-  most : g.L.Listener.most l.listener ≤ max (g.L.Listener.most l.fn.listener) l.at_once;
+  looks : g.L.PolledListener.looks l.listener ≡ l.counter;
+  filled : g.L.PolledListener.there l.listener ≡ length l.slots.items;
+  most : g.L.PolledListener.most l.listener ≤ max (g.L.PolledListener.most l.fn.listener) l.at_once;
   port : g.L.Listener.port l.listener ≡ g.L.Listener.port l.fn.listener;
   served : l.broker.served ≡ l.fn.broker.served;
   room : 0 < length l.buffer;
@@ -16,7 +16,7 @@ invariant-loop g l = record {
   few : length l.slots.items ≤ l.progress.at_once;
   count : l.progress.count ≡ l.count;
   at_once : l.progress.at_once ≡ l.at_once;
-  asked : WereAsked l.idle (g.L.Listener.looks l.listener) l.slots.items;
-  going : GoesOn (g.L.Listener.ended l.listener) (acts g.S.Servant.says g.S.Servant.after) l.fn.broker.served l.idle l.fn.broker.world.servant
+  asked : WereAsked l.idle (g.L.PolledListener.looks l.listener) l.slots.items;
+  going : GoesOn (g.L.PolledListener.ended l.listener) (acts g.S.Servant.says g.S.Servant.after) l.fn.broker.served l.idle l.fn.broker.world.servant
       (g.L.Listener.came l.listener) l.broker.world l.slots.items;
 }

@@ -5,7 +5,7 @@ use Rattle.socket_server.proofs.serving_many.serve_many_at.Goals as goal
 
 pub returns-clause-done : goal.returns-clause-done
 returns-clause-done g c =
-    let told = g.L.Listener.ended c.serve_by.new.listener in
+    let told = g.L.PolledListener.ended c.serve_by.new.listener in
     let came = g.L.Listener.came c.serve_by.new.listener in
     let word = c.args.options.now.object.now in
     subst (λ (n : ℕ). OnOk c.serve_by.result (IsDoneTogether told c.args.table.model word (n * 1000) came)) c.from-idle.ensures
