@@ -34,7 +34,7 @@ use Rattle.lowered_types.proofs.Settled.{AllSettled, Settled, behind, both, both
 use Rattle.lowered_types.proofs.SimpleKeep.{param_keeps, param_silent}
 use Rattle.lowered_types.proofs.Lowering.{Adds, placed_is, with_placed}
 use Rattle.lowered_operations.specs.declared.signature.Role.TheVariants as Roles
-use Rattle.lowered_operations.specs.Frames.{nothing_carried, with_carried}
+use Rattle.lowered_operations.specs.Frames.{nothing_carried, result_name, with_carried}
 use Rattle.lowered_operations.specs.Operations.{Defined, Requested, attribute, attribute_identifiers, get_raises, is_set, raised, set_raises, with_access, with_attribute, with_call, with_get, with_place, with_set, with_types}
 use Rattle.lowered_operations.specs.Sound.{IsSoundSignature}
 use Rattle.lowered_operations.proofs.Calls.{AreCarried, carried_fine, nothing_begun, nothing_right, raised_fine, same_parts}
@@ -48,15 +48,15 @@ AreBelow w raises = All (λ k. k < length w.exceptions) raises
 get_fine : (es : List Entry) (g : List Introduction) (d : Defined) (number : ℕ) (raises : List ℕ) (e : ℕ) (at : At) → Keeps es g nothing_begun d.types → IsPart d.types.nodes number
     → Fine (IsCalled es g d (signature e Roles.Getting false raises)) (with_get d number raises e at)
 get_fine es g d number raises e at i part =
-    and_then (AreCarried d.types.nodes) (IsCalled es g d (signature e Roles.Getting false raises)) (with_carried nothing_carried Out number at)
-    (λ c. with_call d c false raises Roles.Getting e at) (carried_fine d.types.nodes nothing_carried Out number at (nothing_right d.types.nodes) part)
+    and_then (AreCarried d.types.nodes) (IsCalled es g d (signature e Roles.Getting false raises)) (with_carried nothing_carried result_name Out number at)
+    (λ c. with_call d c false raises Roles.Getting e at) (carried_fine d.types.nodes nothing_carried result_name Out number at (nothing_right d.types.nodes) part)
     (λ c h. call_fine es g d c false raises Roles.Getting e at i h)
 
-set_fine : (es : List Entry) (g : List Introduction) (d : Defined) (number : ℕ) (raises : List ℕ) (e : ℕ) (at : At) → Keeps es g nothing_begun d.types → IsPart d.types.nodes number
-    → Fine (IsCalled es g d (signature e Roles.Setting false raises)) (with_set d number raises e at)
-set_fine es g d number raises e at i part =
-    and_then (AreCarried d.types.nodes) (IsCalled es g d (signature e Roles.Setting false raises)) (with_carried nothing_carried In number at)
-    (λ c. with_call d c false raises Roles.Setting e at) (carried_fine d.types.nodes nothing_carried In number at (nothing_right d.types.nodes) part)
+set_fine : (es : List Entry) (g : List Introduction) (d : Defined) (name : List ℕ) (number : ℕ) (raises : List ℕ) (e : ℕ) (at : At) → Keeps es g nothing_begun d.types → IsPart d.types.nodes number
+    → Fine (IsCalled es g d (signature e Roles.Setting false raises)) (with_set d name number raises e at)
+set_fine es g d name number raises e at i part =
+    and_then (AreCarried d.types.nodes) (IsCalled es g d (signature e Roles.Setting false raises)) (with_carried nothing_carried name In number at)
+    (λ c. with_call d c false raises Roles.Setting e at) (carried_fine d.types.nodes nothing_carried name In number at (nothing_right d.types.nodes) part)
     (λ c h. call_fine es g d c false raises Roles.Setting e at i h)
 
 -- only got
@@ -125,14 +125,14 @@ both_fine es g d gets sets e r t h below below_too pending called called_too =
     (subst₂ (λ os is. GoesAll es g d (record { types = u; operations = os; interfaces = is })) (sym told) (sym (called_too.interfaces ∙ called.interfaces))
     (more_lowered es g g d u (ops ++ set ∷ []) h goes.keeps later all (omega (arith, long, longer)) (omega (arith, long, longer, few, more, more_too))))
 
-access_fine : (es : List Entry) (g : List Introduction) (d : Defined) (number : ℕ) (set : Bool) (gets sets : List ℕ) (e : ℕ) (at : At) (r : Requested) → KeepsAll es g d → IsPart d.types.nodes number
+access_fine : (es : List Entry) (g : List Introduction) (d : Defined) (name : List ℕ) (number : ℕ) (set : Bool) (gets sets : List ℕ) (e : ℕ) (at : At) (r : Requested) → KeepsAll es g d → IsPart d.types.nodes number
     → AreBelow d.types gets → AreBelow d.types sets → Pending es g d.types e → IsCalled es g d (signature e Roles.Getting false gets) r
-    → Fine (GoesAll es g d) (with_access r number set sets e at)
-access_fine es g d number false gets sets e at r h part below below_too pending called = got_fine es g d gets e r h below pending called
-access_fine es g d number true gets sets e at r h part below below_too pending called =
+    → Fine (GoesAll es g d) (with_access r name number set sets e at)
+access_fine es g d name number false gets sets e at r h part below below_too pending called = got_fine es g d gets e r h below pending called
+access_fine es g d name number true gets sets e at r h part below below_too pending called =
     let framed = called.framed in
-    and_then (IsCalled es g r.defined (signature e Roles.Setting false sets)) (GoesAll es g d) (with_set r.defined number sets e at) (λ set. with_place set.defined e (GotAndSet r.request))
-    (set_fine es g r.defined number sets e at framed.keeps (part_stays d.types.nodes r.defined.types.nodes framed.later.nodes number part))
+    and_then (IsCalled es g r.defined (signature e Roles.Setting false sets)) (GoesAll es g d) (with_set r.defined name number sets e at) (λ set. with_place set.defined e (GotAndSet r.request))
+    (set_fine es g r.defined name number sets e at framed.keeps (part_stays d.types.nodes r.defined.types.nodes framed.later.nodes number part))
     (λ t called_too. both_fine es g d gets sets e r t h below below_too pending called called_too)
 
 -- ---- one attribute
@@ -144,9 +144,9 @@ one_fine es g d scope number a id e h part get set pending is =
     and_then (AreBelow d.types) (GoesAll es g d) (raised es d.types scope (get_raises a)) _ get (λ gets below.
     and_then (AreBelow d.types) (GoesAll es g d) (raised es d.types scope (set_raises a)) _ set (λ sets below_too.
     given (GoesAll es g d) (entry_of es scope id) e _ (entry_is es scope id e is)
-    (and_then (IsCalled es g d (signature e Roles.Getting false gets)) (GoesAll es g d) (with_get d number gets e (leaf_at id)) (λ got. with_access got number (is_set a) sets e (leaf_at id))
+    (and_then (IsCalled es g d (signature e Roles.Getting false gets)) (GoesAll es g d) (with_get d number gets e (leaf_at id)) (λ got. with_access got (word id) number (is_set a) sets e (leaf_at id))
     (get_fine es g d number gets e (leaf_at id) h.types_kept part)
-    (λ r called. access_fine es g d number (is_set a) gets sets e (leaf_at id) r h part below below_too pending called))))
+    (λ r called. access_fine es g d (word id) number (is_set a) gets sets e (leaf_at id) r h part below below_too pending called))))
 
 feature_all : (es : List Entry) (g : List Introduction) (d : Defined) (scope : ℕ) (id : Leaf) → KeepsAll es g d → Settled es g scope (DeclaresFeature Kinds.Attribute id)
     → KeepsAll es (Stands scope id Kinds.Attribute ∷ g) d

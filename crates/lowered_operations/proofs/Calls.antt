@@ -18,6 +18,7 @@ use Rattle.idl_tree.specs.declared.kinds.EntryKind.{EntryKind}
 use Rattle.idl_tree.specs.declared.kinds.EntryKind.TheVariants as Kinds
 use Rattle.idl_tree.specs.Starts.{leaf_at}
 use Rattle.name_table.specs.Entry.{Entry}
+use Rattle.name_table.specs.Search.{word}
 use Rattle.scoped_names.specs.Introductions.{Introduction}
 use Rattle.scoped_names.specs.Reading.{◌>>◌}
 use Rattle.name_steps.specs.Steps.{Enters, HasMember, Leaves, NamesException, optional_parts, param_steps, param_type_steps, raises_steps, result_steps}
@@ -48,7 +49,7 @@ use Rattle.lowered_types.proofs.Walks.{goes_on}
 use Rattle.lowered_types.proofs.Lowering.{Adds}
 use Rattle.lowered_operations.specs.declared.frames.Carried.{Carried}
 use Rattle.lowered_operations.specs.declared.frames.Carrying.{Carrying}
-use Rattle.lowered_operations.specs.Frames.{carrying, frame_added, frames_added, nothing_carried, result_carried, with_carried, with_param}
+use Rattle.lowered_operations.specs.Frames.{carrying, frame_added, frames_added, nothing_carried, result_carried, result_name, with_carried, with_param}
 use Rattle.lowered_operations.specs.Oneway.{parts_of}
 use Rattle.lowered_operations.specs.Operations.{exception_found, exception_in, raised, with_exception}
 
@@ -76,21 +77,21 @@ pub record Carries (es : List Entry) (g : List Introduction) (w : Lowered) (c : 
 any_many : (graph : List Node) (ms : Members) → AreRight graph [] 1 ms → AreRight graph [] 0 ms
 any_many graph ms h = record { members = h.members; first = h.first; some = omega arith }
 
-more_fine : (graph : List Node) (ms : Members) (number : ℕ) (at : At) → AreRight graph [] 0 ms → IsPart graph number → Fine (AreRight graph [] 0) (member_added ms number at)
-more_fine graph ms number at h part =
-    weaker (AreRight graph [] 1) (AreRight graph [] 0) (member_added ms number at) (λ more is. any_many graph more is) (member_fine graph [] 0 ms number at h part)
+more_fine : (graph : List Node) (ms : Members) (name : List ℕ) (number : ℕ) (at : At) → AreRight graph [] 0 ms → IsPart graph number → Fine (AreRight graph [] 0) (member_added ms name number at)
+more_fine graph ms name number at h part =
+    weaker (AreRight graph [] 1) (AreRight graph [] 0) (member_added ms name number at) (λ more is. any_many graph more is) (member_fine graph [] 0 ms name number at h part)
 
-pub carried_fine : (graph : List Node) (c : Carried) (d : Direction) (number : ℕ) (at : At) → AreCarried graph c → IsPart graph number → Fine (AreCarried graph) (with_carried c d number at)
-carried_fine graph c In number at h part =
-    and_then (AreRight graph [] 0) (AreCarried graph) (member_added c.request number at) (λ ms. Ok (record c { request = ms })) (more_fine graph c.request number at h.request part)
+pub carried_fine : (graph : List Node) (c : Carried) (name : List ℕ) (d : Direction) (number : ℕ) (at : At) → AreCarried graph c → IsPart graph number → Fine (AreCarried graph) (with_carried c name d number at)
+carried_fine graph c name In number at h part =
+    and_then (AreRight graph [] 0) (AreCarried graph) (member_added c.request name number at) (λ ms. Ok (record c { request = ms })) (more_fine graph c.request name number at h.request part)
     (λ ms is. record { request = is; reply = h.reply })
-carried_fine graph c Out number at h part =
-    and_then (AreRight graph [] 0) (AreCarried graph) (member_added c.reply number at) (λ ms. Ok (record c { reply = ms })) (more_fine graph c.reply number at h.reply part)
+carried_fine graph c name Out number at h part =
+    and_then (AreRight graph [] 0) (AreCarried graph) (member_added c.reply name number at) (λ ms. Ok (record c { reply = ms })) (more_fine graph c.reply name number at h.reply part)
     (λ ms is. record { request = h.request; reply = is })
-carried_fine graph c InOut number at h part =
-    and_then (AreRight graph [] 0) (AreCarried graph) (member_added c.request number at) _ (more_fine graph c.request number at h.request part) (λ request is.
-    and_then (AreRight graph [] 0) (AreCarried graph) (member_added c.reply number at) (λ reply. Ok (record { request = request; reply = reply }))
-    (more_fine graph c.reply number at h.reply part) (λ reply also. record { request = is; reply = also }))
+carried_fine graph c name InOut number at h part =
+    and_then (AreRight graph [] 0) (AreCarried graph) (member_added c.request name number at) _ (more_fine graph c.request name number at h.request part) (λ request is.
+    and_then (AreRight graph [] 0) (AreCarried graph) (member_added c.reply name number at) (λ reply. Ok (record { request = request; reply = reply }))
+    (more_fine graph c.reply name number at h.reply part) (λ reply also. record { request = is; reply = also }))
 
 pub nothing_right : (graph : List Node) → AreCarried graph nothing_carried
 nothing_right graph = record { request = none_right graph; reply = none_right graph }
@@ -99,11 +100,11 @@ carried_later : (w v : Lowered) (c : Carried) → Later w v → AreCarried w.nod
 carried_later w v c l h = record { request = right_later w v [] 0 c.request l h.request; reply = right_later w v [] 0 c.reply l h.reply }
 
 -- a type more is carried, where it is lowered
-type_carried : (es : List Entry) (g : List Introduction) (w : Lowered) (c : Carrying) (t : Numbered) (d : Direction) (at : At) → Carries es g w c → Adds es g nothing_begun c.types t
-    → Fine (Carries es g w) (with_carried c.carried d t.number at >> λ more. Ok (carrying t.lowered more))
-type_carried es g w c t d at h a =
-    and_then (AreCarried t.lowered.nodes) (Carries es g w) (with_carried c.carried d t.number at) (λ more. Ok (carrying t.lowered more))
-    (carried_fine t.lowered.nodes c.carried d t.number at (carried_later c.types t.lowered c.carried a.later h.right) a.part) (λ more is. record {
+type_carried : (es : List Entry) (g : List Introduction) (w : Lowered) (c : Carrying) (t : Numbered) (name : List ℕ) (d : Direction) (at : At) → Carries es g w c → Adds es g nothing_begun c.types t
+    → Fine (Carries es g w) (with_carried c.carried name d t.number at >> λ more. Ok (carrying t.lowered more))
+type_carried es g w c t name d at h a =
+    and_then (AreCarried t.lowered.nodes) (Carries es g w) (with_carried c.carried name d t.number at) (λ more. Ok (carrying t.lowered more))
+    (carried_fine t.lowered.nodes c.carried name d t.number at (carried_later c.types t.lowered c.carried a.later h.right) a.part) (λ more is. record {
       keeps = a.keeps;
       later = later_on w c.types t.lowered h.later a.later;
       places = a.places ∙ h.places;
@@ -123,14 +124,14 @@ param_carried es g w scope id c p settled h =
     let parts = split es g scope (param_type_steps p.param_type) (Enters id ∷ HasMember p.identifier ∷ Leaves ∷ []) settled in
     and_then (Adds es g nothing_begun c.types) (Carries es (behind es g scope (param_steps id p)) w) (param_type es c.types scope p.param_type) _
     (param_keeps es g nothing_begun c.types scope p.param_type h.keeps parts.0) (λ t a.
-    weaker (Carries es g w) (Carries es (behind es g scope (param_steps id p)) w) (with_carried c.carried p.direction t.number (leaf_at p.identifier) >> λ more. Ok (carrying t.lowered more))
+    weaker (Carries es g w) (Carries es (behind es g scope (param_steps id p)) w) (with_carried c.carried (word p.identifier) p.direction t.number (leaf_at p.identifier) >> λ more. Ok (carrying t.lowered more))
     (λ k is. record {
       keeps = silent_keeps es g nothing_begun k.types scope (param_steps id p) (param_silence id p) settled is.keeps;
       later = is.later;
       places = is.places;
       exceptions = is.exceptions;
       right = is.right;
-    }) (type_carried es g w c t p.direction (leaf_at p.identifier) h a))
+    }) (type_carried es g w c t (word p.identifier) p.direction (leaf_at p.identifier) h a))
 
 pub params_carried : (es : List Entry) (g : List Introduction) (w : Lowered) (scope : ℕ) (id : Leaf) (c : Carrying) (ps : List Param) → AllSettled es g scope (flat_map (param_steps id) ps)
     → Carries es g w c → Fine (Carries es (behind es g scope (flat_map (param_steps id) ps)) w) (each (with_param es scope) c ps)
@@ -143,7 +144,7 @@ result_fine es g w scope at None i h = record { keeps = i; later = later_none w;
 result_fine es g w scope at (Some t) i h =
     let start : Carries es g w (carrying w nothing_carried) = record { keeps = i; later = later_none w; places = refl; exceptions = refl; right = nothing_right w.nodes } in
     and_then (Adds es g nothing_begun w) (Carries es g w) (param_type es w scope t) _ (param_keeps es g nothing_begun w scope t i h)
-    (λ n a. type_carried es g w (carrying w nothing_carried) n Out at start a)
+    (λ n a. type_carried es g w (carrying w nothing_carried) n result_name Out at start a)
 
 -- ---- frames
 
@@ -164,10 +165,10 @@ pub frames_fine : (es : List Entry) (g : List Introduction) (w : Lowered) (c : C
     → Fine (AreFramed es g w) (frames_added w c at)
 frames_fine es g w c at i h =
     and_then (Frames es g nothing_begun w c.request.numbers) (AreFramed es g w) (frame_added w c.request at) _
-    (frame_fine es g nothing_begun w c.request.numbers (record { at = at; held = c.request.sites }) at i h.request.members) (λ first a.
+    (frame_fine es g nothing_begun w c.request.numbers c.request.names (record { at = at; held = c.request.sites }) at i h.request.members) (λ first a.
     let v = first.lowered in
     and_then (Frames es g nothing_begun v c.reply.numbers) (AreFramed es g w) (frame_added v c.reply at) (λ reply. Ok (already reply.lowered first.number))
-    (frame_fine es g nothing_begun v c.reply.numbers (record { at = at; held = c.reply.sites }) at a.keeps
+    (frame_fine es g nothing_begun v c.reply.numbers c.reply.names (record { at = at; held = c.reply.sites }) at a.keeps
     (node_stays w.nodes v.nodes a.later.nodes (Frame c.reply.numbers) h.reply.members)) (λ second b.
     let at = a.number in
     let more = a.more in

@@ -87,10 +87,10 @@ no_exception es w scope name names e n found is =
 -- ---- frames
 
 -- one type more than a reply may carry
-pub full_reply : (c : Carried) (number : ℕ) (at : At) → nat_lt max_members (length c.reply.numbers + 1) ≡ true
-    → with_carried c Out number at ≡ Err (limit MembersLimit max_members at)
-full_reply c number at full =
+pub full_reply : (c : Carried) (name : List ℕ) (number : ℕ) (at : At) → nat_lt max_members (length c.reply.numbers + 1) ≡ true
+    → with_carried c name Out number at ≡ Err (limit MembersLimit max_members at)
+full_reply c name number at full =
     let fault = limit MembersLimit max_members at in
     let count = length c.reply.numbers + 1 in
-    stops (member_added c.reply number at) fault _
+    stops (member_added c.reply name number at) fault _
     (stops (at_most max_members MembersLimit at count) fault _ (ap (λ b. if b then Err fault else Ok count) full))

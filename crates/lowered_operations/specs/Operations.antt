@@ -13,6 +13,7 @@ use Rattle.idl_tree.specs.declared.definitions.Operation.{Operation}
 use Rattle.idl_tree.specs.Lists.{parts}
 use Rattle.idl_tree.specs.Starts.{leaf_at}
 use Rattle.name_table.specs.Entry.{Entry}
+use Rattle.name_table.specs.Search.{word}
 use Rattle.scoped_names.specs.Reading.{◌>>◌}
 use Rattle.lowered_types.specs.declared.fault.BuildFault.{BuildFault}
 use Rattle.lowered_types.specs.declared.fault.BuildFault.TheVariants.{OtherNames}
@@ -28,7 +29,7 @@ use Rattle.lowered_operations.specs.declared.signature.Signature.{Signature}
 use Rattle.lowered_operations.specs.declared.signature.Offered.{Offered}
 use Rattle.lowered_operations.specs.declared.frames.Carried.{Carried}
 use Rattle.lowered_operations.specs.Oneway.{oneway_test, parts_of}
-use Rattle.lowered_operations.specs.Frames.{all_carried, frames_added, nothing_carried, with_carried}
+use Rattle.lowered_operations.specs.Frames.{all_carried, frames_added, nothing_carried, result_name, with_carried}
 
 -- the types, the operations in order, and what each entry that is a defined interface has
 pub record Defined : Type 0 where
@@ -131,18 +132,18 @@ set_raises (Set id set) = parts set
 -- the attribute of the type that has the number is got
 abbrev pub with_get : Defined → ℕ → List ℕ → ℕ → At → Result Requested BuildFault
 with_get d number raises e at =
-    with_carried nothing_carried Out number at >> λ c. with_call d c false raises Roles.Getting e at
+    with_carried nothing_carried result_name Out number at >> λ c. with_call d c false raises Roles.Getting e at
 
--- it is set
-abbrev pub with_set : Defined → ℕ → List ℕ → ℕ → At → Result Requested BuildFault
-with_set d number raises e at =
-    with_carried nothing_carried In number at >> λ c. with_call d c false raises Roles.Setting e at
+-- the attribute of the name is set
+abbrev pub with_set : Defined → List ℕ → ℕ → List ℕ → ℕ → At → Result Requested BuildFault
+with_set d name number raises e at =
+    with_carried nothing_carried name In number at >> λ c. with_call d c false raises Roles.Setting e at
 
 -- it is set too, if it may be
-abbrev pub with_access : Requested → ℕ → Bool → List ℕ → ℕ → At → Result Defined BuildFault
-with_access got number false raises e at = with_place got.defined e (Got got.request)
-with_access got number true raises e at =
-    with_set got.defined number raises e at >> λ set. with_place set.defined e (GotAndSet got.request)
+abbrev pub with_access : Requested → List ℕ → ℕ → Bool → List ℕ → ℕ → At → Result Defined BuildFault
+with_access got name number false raises e at = with_place got.defined e (Got got.request)
+with_access got name number true raises e at =
+    with_set got.defined name number raises e at >> λ set. with_place set.defined e (GotAndSet got.request)
 
 -- one of the attributes, of the type that has the number
 abbrev pub with_attribute : List Entry → ℕ → ℕ → Attributes → Defined → Leaf → Result Defined BuildFault
@@ -151,7 +152,7 @@ with_attribute es scope number a d id =
     raised es d.types scope (set_raises a) >> λ set.
     entry_of es scope id >> λ e.
     with_get d number get e (leaf_at id) >> λ got.
-    with_access got number (is_set a) set e (leaf_at id)
+    with_access got (word id) number (is_set a) set e (leaf_at id)
 
 -- the identifiers of attributes that are declared together
 abbrev pub attribute_identifiers : Attributes → List Leaf

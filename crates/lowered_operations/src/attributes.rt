@@ -5,7 +5,7 @@ ghost use Rattle.idl_tree.specs.Lists.{parts};
 ghost use Rattle.lowered_types.specs.Faults.{Tells, each};
 ghost use Rattle.lowered_operations.specs.Operations.{attribute_identifiers, attribute, is_set as are_set, requested, with_access, with_attribute, with_get, with_set};
 
-use crate::frames::Carried;
+use crate::frames::{Carried, RESULT};
 use crate::raised::{find_get_raised, find_set_raised};
 use crate::signature::Role;
 use crate::table::OperationTable;
@@ -38,22 +38,23 @@ impl OperationTable {
     ) -> Result<(OperationTable, u32), BuildFault>
         ensures { Tells result (λ r. requested r.0 r.1) (with_get self number raises.items entry at) }
     {
-        let carried = Carried::new(alloc).with_type(Direction::Out, number, at)?;
+        let carried = Carried::new(alloc).with_type(alloc, RESULT, Direction::Out, number, at)?;
         self.with_call(carried, false, raises, Role::Getting, entry, at)
     }
 
-    /// It is set.
+    /// The attribute of the name is set.
     fn with_set(
         self,
         alloc: Global,
+        name: &str,
         number: u32,
         raises: Vec<usize>,
         entry: usize,
         at: At,
     ) -> Result<(OperationTable, u32), BuildFault>
-        ensures { Tells result (λ r. requested r.0 r.1) (with_set self number raises.items entry at) }
+        ensures { Tells result (λ r. requested r.0 r.1) (with_set self name.now number raises.items entry at) }
     {
-        let carried = Carried::new(alloc).with_type(Direction::In, number, at)?;
+        let carried = Carried::new(alloc).with_type(alloc, name, Direction::In, number, at)?;
         self.with_call(carried, false, raises, Role::Setting, entry, at)
     }
 
@@ -62,6 +63,7 @@ impl OperationTable {
         self,
         alloc: Global,
         request: u32,
+        name: &str,
         number: u32,
         is_set: bool,
         raises: Vec<usize>,
@@ -69,12 +71,12 @@ impl OperationTable {
         at: At,
     ) -> Result<OperationTable, BuildFault>
         ensures { Tells result (λ table. table)
-            (with_access (requested self request) number is_set raises.items entry at) }
+            (with_access (requested self request) name.now number is_set raises.items entry at) }
     {
         if !is_set {
             return self.with_place(entry, Place::Got { request });
         }
-        let (table, _) = self.with_set(alloc, number, raises, entry, at)?;
+        let (table, _) = self.with_set(alloc, name, number, raises, entry, at)?;
         table.with_place(entry, Place::GotAndSet { request })
     }
 
@@ -97,7 +99,17 @@ impl OperationTable {
         let set = find_set_raised(names, &self.types, alloc, scope, declared)?;
         let entry = declared_entry(names, scope, identifier)?;
         let (table, request) = self.with_get(alloc, number, get, entry, at)?;
-        table.with_access(alloc, request, number, is_set(declared), set, entry, at)
+        let name = identifier.name();
+        table.with_access(
+            alloc,
+            request,
+            name,
+            number,
+            is_set(declared),
+            set,
+            entry,
+            at,
+        )
     }
 
     /// Attributes that raise nothing.

@@ -14,7 +14,10 @@ use std::alloc::Global;
 use type_graph::Node;
 use type_paths::NodeSites;
 
-/// The types that a request and its reply carry.
+/// What a result is called.
+pub(crate) const RESULT: &str = "_return";
+
+/// The types that a request and its reply carry, with their names.
 #[derive(Drop)]
 pub(crate) struct Carried {
     pub request: MemberList,
@@ -39,26 +42,33 @@ impl Carried {
         }
     }
 
-    /// One type more, of what stands there.
+    /// One type more, of what has the name and stands there.
     ///
     /// # Errors
     /// Those of `MemberList::with_member`.
-    pub fn with_type(self, direction: Direction, number: u32, at: At) -> Result<Carried, BuildFault>
-        ensures { Tells result (λ c. c) (with_carried self direction number at) }
+    pub fn with_type(
+        self,
+        alloc: Global,
+        name: &str,
+        direction: Direction,
+        number: u32,
+        at: At,
+    ) -> Result<Carried, BuildFault>
+        ensures { Tells result (λ c. c) (with_carried self name.now direction number at) }
     {
         let Carried { request, reply } = self;
         match direction {
             Direction::In => {
-                let request = request.with_member(number, at)?;
+                let request = request.with_member(alloc, name, number, at)?;
                 Ok(Carried { request, reply })
             }
             Direction::Out => {
-                let reply = reply.with_member(number, at)?;
+                let reply = reply.with_member(alloc, name, number, at)?;
                 Ok(Carried { request, reply })
             }
             Direction::InOut => {
-                let request = request.with_member(number, at)?;
-                let reply = reply.with_member(number, at)?;
+                let request = request.with_member(alloc, name, number, at)?;
+                let reply = reply.with_member(alloc, name, number, at)?;
                 Ok(Carried { request, reply })
             }
         }
@@ -79,7 +89,8 @@ impl Carrying {
         let Carrying { types, carried } = self;
         let at = param.identifier.at();
         let (types, number) = types.with_param_type(alloc, names, scope, &param.param_type)?;
-        let carried = carried.with_type(param.direction, number, at)?;
+        let name = param.identifier.name();
+        let carried = carried.with_type(alloc, name, param.direction, number, at)?;
         Ok(Carrying { types, carried })
     }
 
@@ -118,7 +129,7 @@ fn lower_result<'a>(
         return Ok(Carrying { types, carried });
     };
     let (types, number) = types.with_param_type(alloc, names, scope, t)?;
-    let carried = carried.with_type(Direction::Out, number, at)?;
+    let carried = carried.with_type(alloc, RESULT, Direction::Out, number, at)?;
     Ok(Carrying { types, carried })
 }
 
@@ -154,8 +165,8 @@ fn lower_frame(
     ensures { Tells result (λ r. already r.0 r.1) (frame_added types members at) }
 {
     let types = types.with_members(members.len(), at)?;
-    let (members, held) = members.into_parts();
-    types.with_node(Node::Frame { members }, NodeSites::new(at, held))
+    let (members, names, held) = members.into_parts();
+    types.with_node(Node::Frame { members }, names, NodeSites::new(at, held))
 }
 
 /// The frames of a request and its reply; gives the number of the first.

@@ -157,18 +157,18 @@ pub record Frames (es : List Entry) (g : List Introduction) (begun : ℕ → Typ
   pub places : n.lowered.places ≡ w.places
   pub exceptions : n.lowered.exceptions ≡ w.exceptions
 
-pub frame_fine : (es : List Entry) (g : List Introduction) (begun : ℕ → Type 0) (w : Lowered) (ms : List ℕ) (sites : Sites) (at : At) → Keeps es g begun w → IsNode w.nodes (Frame ms)
-    → Fine (Frames es g begun w ms) (counted w (length ms) at >> λ v. added v (Frame ms) sites)
-frame_fine es g begun w ms sites at i right =
-    and_then (Counts es g begun w (length ms)) (Frames es g begun w ms) (counted w (length ms) at) (λ v. added v (Frame ms) sites)
+pub frame_fine : (es : List Entry) (g : List Introduction) (begun : ℕ → Type 0) (w : Lowered) (ms : List ℕ) (names : List (List ℕ)) (sites : Sites) (at : At) → Keeps es g begun w → IsNode w.nodes (Frame ms)
+    → Fine (Frames es g begun w ms) (counted w (length ms) at >> λ v. added v (Frame ms) names sites)
+frame_fine es g begun w ms names sites at i right =
+    and_then (Counts es g begun w (length ms)) (Frames es g begun w ms) (counted w (length ms) at) (λ v. added v (Frame ms) names sites)
     (counted_fine es g begun w (length ms) at i) (λ v counts.
     and_then (λ k. (k ≡ next v + 1) × (next v + 1 ≤ max_nodes)) (Frames es g begun w ms) (at_most max_nodes Nodes sites.at (next v + 1)) _
     (at_most_fine max_nodes Nodes sites.at (next v + 1)) (λ k fits.
     let right_there = subst (λ graph. IsNode graph (Frame ms)) (sym counts.nodes) right in
     let room = subst (λ graph. all_members graph + length ms ≤ v.members) (sym counts.nodes) counts.room in
     record {
-      keeps = node_kept es g begun v (Frame ms) sites counts.keeps right_there (λ is. cc) fits.1 room;
-      later = later_on w v (with_node v (Frame ms) sites) counts.later (node_later v (Frame ms) sites);
+      keeps = node_kept es g begun v (Frame ms) names sites counts.keeps right_there (λ is. cc) fits.1 room;
+      later = later_on w v (with_node v (Frame ms) names sites) counts.later (node_later v (Frame ms) names sites);
       frame = get_push_last v.nodes (Frame ms);
       number = ap length counts.nodes;
       more = length-append v.nodes (Frame ms ∷ []) ∙ ap (λ graph. length graph + 1) counts.nodes;
@@ -184,8 +184,8 @@ exception_fine es g begun w e site x m h at kind ended =
     let v = m.lowered in
     let sites : Sites = record { at = site; held = m.members.sites } in
     subst (Fine (Goes es g begun w)) regrouped
-    (and_then (Frames es g (with_begun e begun) v ms) (Goes es g begun w) (counted v (length ms) site >> λ u. added u (Frame ms) sites) (λ frame. raised_at frame.lowered e frame.number)
-    (frame_fine es g (with_begun e begun) v ms sites site h.keeps h.right.members) (λ f frames.
+    (and_then (Frames es g (with_begun e begun) v ms) (Goes es g begun w) (counted v (length ms) site >> λ u. added u (Frame ms) m.members.names sites) (λ frame. raised_at frame.lowered e frame.number)
+    (frame_fine es g (with_begun e begun) v ms m.members.names sites site h.keeps h.right.members) (λ f frames.
     let none = no_place x.kind (slice_get f.lowered.places e) kind (frames.keeps.unplaced e x (inl refl) at) in
     let knows = frames.keeps.begun_known e (inl refl) in
     let text = frames.keeps.basic 9 (Text 0) refl in
@@ -209,12 +209,12 @@ exception_fine es g begun w e site x m h at kind ended =
     no_place Kinds.Exception o is h = h
     no_place k o is h = absurd cc
 
-    regrouped : ((counted m.lowered (length m.members.numbers) site >> λ u. added u (Frame m.members.numbers) (record { at = site; held = m.members.sites })) >> λ frame. raised_at frame.lowered e frame.number)
+    regrouped : ((counted m.lowered (length m.members.numbers) site >> λ u. added u (Frame m.members.numbers) m.members.names (record { at = site; held = m.members.sites })) >> λ frame. raised_at frame.lowered e frame.number)
         ≡ exception_added m e site
     regrouped = by (counted m.lowered (length m.members.numbers) site)
       where
-        by : (r : Result Lowered BuildFault) → ((r >> λ u. added u (Frame m.members.numbers) (record { at = site; held = m.members.sites })) >> λ frame. raised_at frame.lowered e frame.number)
-            ≡ (r >> λ u. added u (Frame m.members.numbers) (record { at = site; held = m.members.sites }) >> λ frame. raised_at frame.lowered e frame.number)
+        by : (r : Result Lowered BuildFault) → ((r >> λ u. added u (Frame m.members.numbers) m.members.names (record { at = site; held = m.members.sites })) >> λ frame. raised_at frame.lowered e frame.number)
+            ≡ (r >> λ u. added u (Frame m.members.numbers) m.members.names (record { at = site; held = m.members.sites }) >> λ frame. raised_at frame.lowered e frame.number)
         by (Ok u) = refl
         by (Err fault) = refl
 

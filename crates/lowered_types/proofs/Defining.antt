@@ -51,7 +51,7 @@ basic_defined n node is same =
 
 -- the next node has no definition, and is that of the entry
 abbrev pub with_open : Lowered → ℕ → Sites → Lowered
-with_open w e sites = record (with_node w undefined sites) { places = slice_set w.places e (Some (Typed (next w))) }
+with_open w e sites = record (with_node w undefined [] sites) { places = slice_set w.places e (Some (Typed (next w))) }
 
 pub open_kept : (es : List Entry) (g more : List Introduction) (begun : ℕ → Type 0) (w : Lowered) (e : ℕ) (x : Entry) (sites : Sites)
     → Keeps es g begun w → Widens es g e more → slice_get w.places e ≡ Some None → slice_get es e ≡ Some x → has_body x.kind ≡ true
@@ -59,7 +59,7 @@ pub open_kept : (es : List Entry) (g more : List Introduction) (begun : ℕ → 
 open_kept es g more begun w e x sites i widens none at body new fits =
     let s = i.sound in
     let all = s.counted in
-    let sound = grown_sound w undefined sites s (inl refl) fits (omega (arith, all)) in
+    let sound = grown_sound w undefined [] sites s (inl refl) fits (omega (arith, all)) in
     record {
       long = length-set w.places e (Some (Typed (next w))) ∙ i.long;
       known = λ f q is. known f q (cases f q is);
@@ -182,14 +182,15 @@ held_long sites number held = by (nat_lt number 14) (slice_get sites (number - 1
     by false None = refl
     by false (Some l) = length-set sites (number - 14) (record { at = l.at; held = held })
 
-abbrev pub with_defined : Lowered → ℕ → Node → List At → Lowered
-with_defined w number node held = record w { nodes = slice_set w.nodes number node; sites = held_at w.sites number held }
+abbrev pub with_defined : Lowered → ℕ → Node → List (List ℕ) → List At → Lowered
+with_defined w number node names held =
+    record w { nodes = slice_set w.nodes number node; names = slice_set w.names number names; sites = held_at w.sites number held }
 
-pub define_kept : (es : List Entry) (g : List Introduction) (begun : ℕ → Type 0) (w : Lowered) (e number : ℕ) (node : Node) (held : List At)
+pub define_kept : (es : List Entry) (g : List Introduction) (begun : ℕ → Type 0) (w : Lowered) (e number : ℕ) (node : Node) (names : List (List ℕ)) (held : List At)
     → Keeps es g (with_begun e begun) w → HasBody es e → slice_get w.places e ≡ Some (Some (Typed number)) → (begun e → ⊥) → IsDone g (suc e)
     → IsNode w.nodes node → (node ≡ undefined → ⊥) → IsNoFrame node → all_members w.nodes + members_in node ≤ w.members
-    → Keeps es g begun (with_defined w number node held)
-define_kept es g begun w e number node held i body place ended done right defined plain room =
+    → Keeps es g begun (with_defined w number node names held)
+define_kept es g begun w e number node names held i body place ended done right defined plain room =
     let open_yet : slice_get w.nodes number ≡ Some undefined = i.ahead e number body place (inr (inl refl)) in
     let later = slice_set w.nodes number node in
     let grows = set_grows w.nodes number node open_yet plain in
@@ -280,18 +281,18 @@ define_kept es g begun w e number node held i body place ended done right define
     sound n old grows (inl (same, is)) = subst (IsRight (slice_set w.nodes number node)) is (inr (node_stays w.nodes (slice_set w.nodes number node) grows node right))
     sound n old grows (inr (differs, is)) = right_stays w.nodes (slice_set w.nodes number node) grows old (i.sound.nodes n old is)
 
-pub define_later : (w : Lowered) (number : ℕ) (node : Node) (held : List At) → slice_get w.nodes number ≡ Some undefined → IsNoFrame node
-    → Later w (with_defined w number node held)
-define_later w number node held open_yet plain = record {
+pub define_later : (w : Lowered) (number : ℕ) (node : Node) (names : List (List ℕ)) (held : List At) → slice_get w.nodes number ≡ Some undefined → IsNoFrame node
+    → Later w (with_defined w number node names held)
+define_later w number node names held open_yet plain = record {
   nodes = set_grows w.nodes number node open_yet plain;
   places = λ e p is. is;
   exceptions = le_refl (length w.exceptions);
 }
 
-pub node_set_is : (w : Lowered) (number : ℕ) (node : Node) (held : List At) → slice_get w.nodes number ≡ Some undefined
-    → node_set w number node held ≡ Ok (with_defined w number node held)
-node_set_is w number node held open_yet =
-    ap (λ o. if is_undefined o then Ok (with_defined w number node held) else Err OtherNames) open_yet
+pub node_set_is : (w : Lowered) (number : ℕ) (node : Node) (names : List (List ℕ)) (held : List At) → slice_get w.nodes number ≡ Some undefined
+    → node_set w number node names held ≡ Ok (with_defined w number node names held)
+node_set_is w number node names held open_yet =
+    ap (λ o. if is_undefined o then Ok (with_defined w number node names held) else Err OtherNames) open_yet
 
 -- ---- exceptions
 

@@ -24,9 +24,9 @@ use Rattle.name_table.proofs.Stability.{get_push_last}
 
 -- ---- a node more
 
-pub grown_sound : (w : Lowered) (node : Node) (sites : Sites) → IsSound w → IsRight (w.nodes ++ node ∷ []) node → next w + 1 ≤ max_nodes
-    → all_members w.nodes + members_in node ≤ w.members → IsSound (with_node w node sites)
-grown_sound w node sites s right fits room = record {
+pub grown_sound : (w : Lowered) (node : Node) (names : List (List ℕ)) (sites : Sites) → IsSound w → IsRight (w.nodes ++ node ∷ []) node → next w + 1 ≤ max_nodes
+    → all_members w.nodes + members_in node ≤ w.members → IsSound (with_node w node names sites)
+grown_sound w node names sites s right fits room = record {
   limited = let long = length-append w.nodes (node ∷ []) in omega (arith, long, fits);
   nodes = λ n old is. by n old (push_cases w.nodes node n old is);
   counted = let more = sum_push members_in w.nodes node in omega (arith, more, room);
@@ -43,10 +43,10 @@ grown_sound w node sites s right fits room = record {
     by n old (inr (at, same)) = subst (IsRight (w.nodes ++ node ∷ [])) same right
 
 -- one that has its definition
-pub node_kept : (es : List Entry) (g : List Introduction) (begun : ℕ → Type 0) (w : Lowered) (node : Node) (sites : Sites) → Keeps es g begun w
+pub node_kept : (es : List Entry) (g : List Introduction) (begun : ℕ → Type 0) (w : Lowered) (node : Node) (names : List (List ℕ)) (sites : Sites) → Keeps es g begun w
     → IsNode w.nodes node → (node ≡ undefined → ⊥) → next w + 1 ≤ max_nodes → all_members w.nodes + members_in node ≤ w.members
-    → Keeps es g begun (with_node w node sites)
-node_kept es g begun w node sites i right defined fits room =
+    → Keeps es g begun (with_node w node names sites)
+node_kept es g begun w node names sites i right defined fits room =
     let grows = push_grows w.nodes node in
     let later = w.nodes ++ node ∷ [] in
     record {
@@ -65,15 +65,15 @@ node_kept es g begun w node sites i right defined fits room =
       ahead = λ e n body place yet. push_low w.nodes node n undefined (i.ahead e n body place yet);
       left = λ n is. by n (push_cases w.nodes node n undefined is);
       basic = λ n old is. push_low w.nodes node n old (i.basic n old is);
-      sound = grown_sound w node sites i.sound (inr (node_stays w.nodes later grows node right)) fits room;
+      sound = grown_sound w node names sites i.sound (inr (node_stays w.nodes later grows node right)) fits room;
     }
   where
     by : (n : ℕ) → (slice_get w.nodes n ≡ Some undefined) ⊎ ((n ≡ length w.nodes) × (node ≡ undefined)) → IsLeft es g begun w.places n
     by n (inl is) = i.left n is
     by n (inr (at, same)) = absurd (defined same)
 
-pub node_later : (w : Lowered) (node : Node) (sites : Sites) → Later w (with_node w node sites)
-node_later w node sites = record { nodes = push_grows w.nodes node; places = λ e p is. is; exceptions = le_refl (length w.exceptions) }
+pub node_later : (w : Lowered) (node : Node) (names : List (List ℕ)) (sites : Sites) → Later w (with_node w node names sites)
+node_later w node names sites = record { nodes = push_grows w.nodes node; places = λ e p is. is; exceptions = le_refl (length w.exceptions) }
 
 -- what is lowered behind what declares nothing
 pub record Adds (es : List Entry) (g : List Introduction) (begun : ℕ → Type 0) (w : Lowered) (n : Numbered) : Type 0 where
@@ -84,15 +84,15 @@ pub record Adds (es : List Entry) (g : List Introduction) (begun : ℕ → Type 
   pub exceptions : n.lowered.exceptions ≡ w.exceptions
 
 -- a node that others may refer to, and that counts no members
-pub added_fine : (es : List Entry) (g : List Introduction) (begun : ℕ → Type 0) (w : Lowered) (node : Node) (sites : Sites) → Keeps es g begun w
-    → IsNode w.nodes node → (node ≡ undefined → ⊥) → IsNoFrame node → members_in node ≡ 0 → Fine (Adds es g begun w) (added w node sites)
-added_fine es g begun w node sites i right defined plain none =
+pub added_fine : (es : List Entry) (g : List Introduction) (begun : ℕ → Type 0) (w : Lowered) (node : Node) (names : List (List ℕ)) (sites : Sites) → Keeps es g begun w
+    → IsNode w.nodes node → (node ≡ undefined → ⊥) → IsNoFrame node → members_in node ≡ 0 → Fine (Adds es g begun w) (added w node names sites)
+added_fine es g begun w node names sites i right defined plain none =
     and_then (λ k. (k ≡ next w + 1) × (next w + 1 ≤ max_nodes)) (Adds es g begun w) (at_most max_nodes Nodes sites.at (next w + 1)) _
     (at_most_fine max_nodes Nodes sites.at (next w + 1)) (λ k h.
     let room : all_members w.nodes + members_in node ≤ w.members = let all = i.sound.counted in omega (arith, all, none) in
     record {
-      keeps = node_kept es g begun w node sites i right defined h.1 room;
-      later = node_later w node sites;
+      keeps = node_kept es g begun w node names sites i right defined h.1 room;
+      later = node_later w node names sites;
       part = is_some_and (slice_get (w.nodes ++ node ∷ []) (length w.nodes)) IsNoFrame node (get_push_last w.nodes node) plain;
       places = refl;
       exceptions = refl;

@@ -1,5 +1,5 @@
 -- The arms of a union rise, each by a label that is a value of the discriminator, and lead to types that are there.
-use Rattle.std.proofs.Common.{◌≡◌, ◌∙◌, ℕ, ◌+◌, ◌≤◌, Bool, true, false, List, [], ◌∷◌, ◌++◌, length, length-append, Option, Some, None, Ok, Err, refl, ap, arith, ℤ, int_lt}
+use Rattle.std.proofs.Common.{◌≡◌, ◌∙◌, ℕ, ◌+◌, ◌≤◌, Bool, true, false, List, [], ◌∷◌, ◌++◌, length, length-append, Option, Some, None, Ok, refl, ap, arith, ℤ, int_lt}
 use Rattle.std.specs.Prelude.{◌||◌, if◌then◌else◌, IfSome}
 use Rattle.std.specs.List.{AllByRecursion, list_any}
 use Rattle.std.specs.Option.{option_or}
@@ -188,9 +188,9 @@ risen_with graph s count arms number at (l ∷ ls) h part (free, rest) (differ, 
     let all = risen_with graph s (count + 1) (with_arm arms new) number at ls one part (still_free s arms new ls rest differ) apart in
     record { long = let long = all.long in omega (arith, long); rise = all.rise; each = all.each }
 
-pub case_arms : (graph : List Node) (s : Switch) (a : Arms) (number : ℕ) (at : At) (ls : CaseLabels) → AreArms graph s a → AreLabels s a ls → IsPart graph number
-    → AreArms graph s (with_case a number at ls)
-case_arms graph s a number at ls h labels part =
+pub case_arms : (graph : List Node) (s : Switch) (a : Arms) (name : List ℕ) (number : ℕ) (at : At) (ls : CaseLabels) → AreArms graph s a → AreLabels s a ls → IsPart graph number
+    → AreArms graph s (with_case a name number at ls)
+case_arms graph s a name number at ls h labels part =
     let all = risen_with graph s (length a.arms) a.arms number at ls.values (record { long = refl; rise = h.rise; each = h.each }) part labels.values labels.apart in
     let long = all.long in
     let fits = labels.limited in

@@ -26,6 +26,7 @@ use Rattle.type_graph.specs.declared.node.Node.TheVariants.{Text, Seq, Array, En
 use Rattle.type_graph.specs.GraphRules.{IsNoFrame, IsPart}
 use Rattle.idl_tree.specs.declared.kinds.EntryKind.TheVariants as Kinds
 use Rattle.name_table.specs.Entry.{Entry}
+use Rattle.name_table.specs.Search.{word}
 use Rattle.scoped_names.specs.Introductions.{Introduction, Stands}
 use Rattle.name_steps.specs.Steps.{DeclaresEnumerator, bound_steps, const_type_steps, enum_steps, param_type_steps, simple_type_steps, size_step}
 use Rattle.scoped_names.specs.Tests.{size_read}
@@ -34,7 +35,7 @@ use Rattle.scoped_names.proofs.Parts.{closed}
 use Rattle.lowered_types.specs.declared.place.Place.TheVariants.{Typed}
 use Rattle.lowered_types.specs.Faults.{at_most, max_bound, max_enumerators, max_size, of_names}
 use Rattle.lowered_types.specs.SimpleTypes.{array_type, arrays, bound_of, bound_or_none, const_type, declarator_at, entry_of, enum_type, integer_number, param_type, simple_type, size_of, sizes_read, type_found}
-use Rattle.lowered_types.specs.Lowered.{Lowered, Numbered, added_at, already, named_type, one_site, placed}
+use Rattle.lowered_types.specs.Lowered.{Lowered, Numbered, added, added_at, already, named_type, one_site, placed}
 use Rattle.lowered_types.proofs.Fine.{Fine, and_then, at_most_fine, given, weaker}
 use Rattle.lowered_types.proofs.Keeping.{Keeps, Later, later_none, later_on}
 use Rattle.lowered_types.proofs.Naming.{Entered, IsSilent, each_silent, entered, entry_is, finds_type, silent_append, silent_keeps, size_known, type_named}
@@ -115,7 +116,7 @@ const_keeps es g begun w scope (ConstTypes.String None) i h = still_fine es g be
 const_keeps es g begun w scope (ConstTypes.String (Some bound)) i h =
     let at = leaf_at (expr_start bound.expr.value) in
     and_then (λ most. most ≤ max_bound) (Adds es g begun w) (bound_of es scope bound) (λ most. added_at w (Text most) at) (bound_fine es g scope bound h)
-    (λ most le. added_fine es g begun w (Text most) (one_site at) i le (λ is. cc) tt refl)
+    (λ most le. added_fine es g begun w (Text most) [] (one_site at) i le (λ is. cc) tt refl)
 const_keeps es g begun w scope (ConstTypes.Name name) i h =
     let (n, found, part) = finds_type es g begun w scope name i h.0 in
     given (Adds es g begun w) (type_found es w scope name) n (λ n. Ok (already w n)) found (still_fine es g begun w n i part)
@@ -134,7 +135,7 @@ simple_keeps es g begun w scope at (Sequence' shape element bound) i h =
     and_then (λ most. most ≤ max_bound) (Adds es g begun w) (bound_or_none es scope bound) (λ most. added_at e.lowered (Seq e.number most) at)
     (bound_or_none_fine es (behind es g scope (simple_type_steps element)) scope bound parts.1) (λ most le.
     weaker (Adds es g begun e.lowered) (Adds es g begun w) (added_at e.lowered (Seq e.number most) at) (λ n b. adds_on es g begun w e n a b)
-    (added_fine es g begun e.lowered (Seq e.number most) (one_site at) a.keeps (a.part, le) (λ is. cc) tt refl)))
+    (added_fine es g begun e.lowered (Seq e.number most) [] (one_site at) a.keeps (a.part, le) (λ is. cc) tt refl)))
 
 bound_silent : (b : Option Bound) → AllByRecursion IsSilent (bound_steps b)
 bound_silent None = tt
@@ -165,7 +166,7 @@ arrays_keep es g begun w element at (n ∷ ns) a (h, hs) =
     and_then (Adds es g begun w) (Adds es g begun w) (arrays element at ns) (λ inner. added_at inner.lowered (Array inner.number n) at)
     (arrays_keep es g begun w element at ns a hs) (λ inner b.
     weaker (Adds es g begun inner.lowered) (Adds es g begun w) (added_at inner.lowered (Array inner.number n) at) (λ m c. adds_on es g begun w inner m b c)
-    (added_fine es g begun inner.lowered (Array inner.number n) (one_site at) b.keeps (b.part, h.0, h.1) (λ is. cc) tt refl))
+    (added_fine es g begun inner.lowered (Array inner.number n) [] (one_site at) b.keeps (b.part, h.0, h.1) (λ is. cc) tt refl))
 
 -- the type of a declarator, whose sizes are settled where other things are known
 pub array_keeps : (es : List Entry) (g more : List Introduction) (begun : ℕ → Type 0) (w : Lowered) (scope : ℕ) (element : Numbered) (d : Declarator) → Adds es g begun w element
@@ -182,11 +183,11 @@ pub record Wrote (es : List Entry) (g : List Introduction) (begun : ℕ → Type
   pub later : Later w n.lowered
   pub part : IsPart n.lowered.nodes n.number
 
-named_keeps : (es : List Entry) (g : List Introduction) (begun : ℕ → Type 0) (w : Lowered) (scope : ℕ) (e : EnumType) (n : ℕ) (at : At) (d : Entered es g scope e.identifier Kinds.Enum)
-    → Keeps es g begun w → (0 < n) × (n ≤ max_enumerators) → Fine (Wrote es (Stands scope e.identifier Kinds.Enum ∷ g) begun w) (named_type w d.entry (Enum n) at)
-named_keeps es g begun w scope e n at d i right =
+named_keeps : (es : List Entry) (g : List Introduction) (begun : ℕ → Type 0) (w : Lowered) (scope : ℕ) (e : EnumType) (n : ℕ) (names : List (List ℕ)) (at : At) (d : Entered es g scope e.identifier Kinds.Enum)
+    → Keeps es g begun w → (0 < n) × (n ≤ max_enumerators) → Fine (Wrote es (Stands scope e.identifier Kinds.Enum ∷ g) begun w) (named_type w d.entry (Enum n) names at)
+named_keeps es g begun w scope e n names at d i right =
     let wrote = Wrote es (Stands scope e.identifier Kinds.Enum ∷ g) begun w in
-    and_then (Adds es g begun w) wrote (added_at w (Enum n) at) _ (added_fine es g begun w (Enum n) (one_site at) i right (λ is. cc) tt refl) (λ a adds.
+    and_then (Adds es g begun w) wrote (added w (Enum n) names (one_site at)) _ (added_fine es g begun w (Enum n) names (one_site at) i right (λ is. cc) tt refl) (λ a adds.
     let (is, goes) = type_named es g begun a.lowered scope e.identifier Kinds.Enum a.number d adds.keeps refl adds.part in
     given wrote (placed a.lowered d.entry (Typed a.number)) (with_placed a.lowered d.entry (Typed a.number) a.lowered.exceptions) (λ there. Ok (already there a.number)) is
     (record { keeps = goes.keeps; later = later_on w a.lowered _ adds.later goes.later; part = adds.part }))
@@ -197,16 +198,17 @@ enum_keeps es g begun w scope e i (h, hs) =
     let wrote = Wrote es (behind es g scope (enum_steps e)) begun w in
     let d = entered es g scope e.identifier Kinds.Enum h.holds.entries.0 h.new in
     let count = length (parts e.enumerators.value) in
+    let names = map word (parts e.enumerators.value) in
     let named = Stands scope e.identifier Kinds.Enum ∷ g in
     given wrote (entry_of es scope e.identifier) d.entry _ (entry_is es scope e.identifier d.entry d.is)
     (and_then (λ k. (k ≡ count) × (count ≤ max_enumerators)) wrote (at_most max_enumerators Enumerators (leaf_at e.identifier) count)
-    (λ n. named_type w d.entry (Enum n) (leaf_at e.identifier)) (at_most_fine max_enumerators Enumerators (leaf_at e.identifier) count) (λ n le.
+    (λ n. named_type w d.entry (Enum n) names (leaf_at e.identifier)) (at_most_fine max_enumerators Enumerators (leaf_at e.identifier) count) (λ n le.
     let same = le.0 in
     let fits = le.1 in
-    weaker (Wrote es named begun w) wrote (named_type w d.entry (Enum n) (leaf_at e.identifier)) (λ m a.
+    weaker (Wrote es named begun w) wrote (named_type w d.entry (Enum n) names (leaf_at e.identifier)) (λ m a.
     record {
       keeps = silent_keeps es named begun m.lowered scope (map DeclaresEnumerator (parts e.enumerators.value)) (each_silent DeclaresEnumerator (λ l. tt) (parts e.enumerators.value)) hs a.keeps;
       later = a.later;
       part = a.part;
     })
-    (named_keeps es g begun w scope e n (leaf_at e.identifier) d i (omega (arith, same), omega (arith, same, fits)))))
+    (named_keeps es g begun w scope e n names (leaf_at e.identifier) d i (omega (arith, same), omega (arith, same, fits)))))

@@ -38,7 +38,7 @@ use Rattle.lowered_types.specs.Faults.{at_most, max_nodes}
 use Rattle.lowered_types.specs.Labels.{no_arms, switch_read}
 use Rattle.lowered_types.specs.SimpleTypes.{declarator_at, entry_of, simple_type}
 use Rattle.lowered_types.specs.Types.{Cases, WithMembers, arm_at, case_added, cases_of, default_sites, default_number, default_test, members_added, no_members, numbered_arm, struct_defined, struct_type, type_spec, union_defined, union_type, with_cases, with_members, with_members_of}
-use Rattle.lowered_types.specs.Lowered.{Numbered, Lowered, added_at, already, counted, named_type, next, node_set, one_site, opened, opened_as, placed, type_in, undefined, with_node}
+use Rattle.lowered_types.specs.Lowered.{Numbered, Lowered, added, already, counted, named_type, next, node_set, one_site, opened, opened_as, placed, type_in, undefined, with_node}
 use Rattle.lowered_types.proofs.Defining.{define_kept, define_later, node_set_is, open_kept, open_later, with_defined, with_open}
 use Rattle.lowered_types.proofs.Fine.{Fine, and_then, at_most_fine, given, weaker}
 use Rattle.lowered_types.proofs.Keeping.{HasBody, HasPlace, Keeps, Later, NeedsNothing, begins, body_placed, later_none, later_on, more_known, with_begun}
@@ -86,17 +86,17 @@ again_opens es g begun w scope l kind d n i body there = record {
 
 first_opens : (es : List Entry) (g : List Introduction) (begun : ℕ → Type 0) (w : Lowered) (scope : ℕ) (l : Leaf) (kind : EntryKind) (d : Entered es g scope l kind) (at : At)
     → Keeps es g begun w → has_body kind ≡ true → slice_get w.places d.entry ≡ Some None → (Known es g d.entry → ⊥)
-    → Fine (Opens es (Stands scope l kind ∷ g) begun w d.entry) (named_type w d.entry undefined at)
+    → Fine (Opens es (Stands scope l kind ∷ g) begun w d.entry) (named_type w d.entry undefined [] at)
 first_opens es g begun w scope l kind d at i body none new =
     let opens = Opens es (Stands scope l kind ∷ g) begun w d.entry in
     let sites = one_site at in
     let n = next w in
-    and_then (λ a. (a ≡ already (with_node w undefined sites) n) × (n + 1 ≤ max_nodes)) opens (added_at w undefined at) _
-    (and_then (λ k. (k ≡ n + 1) × (n + 1 ≤ max_nodes)) (λ a. (a ≡ already (with_node w undefined sites) n) × (n + 1 ≤ max_nodes)) (at_most max_nodes Nodes at (n + 1)) _
+    and_then (λ a. (a ≡ already (with_node w undefined [] sites) n) × (n + 1 ≤ max_nodes)) opens (added w undefined [] sites) _
+    (and_then (λ k. (k ≡ n + 1) × (n + 1 ≤ max_nodes)) (λ a. (a ≡ already (with_node w undefined [] sites) n) × (n + 1 ≤ max_nodes)) (at_most max_nodes Nodes at (n + 1)) _
     (at_most_fine max_nodes Nodes at (n + 1)) (λ k fits. (refl, fits.1))) (λ a is.
     subst (λ a. Fine opens (placed a.lowered d.entry (Typed a.number) >> λ there. Ok (already there a.number))) (sym is.0)
-    (given opens (placed (with_node w undefined sites) d.entry (Typed n)) (with_open w d.entry sites) (λ there. Ok (already there n))
-    (placed_is (with_node w undefined sites) d.entry (Typed n) none)
+    (given opens (placed (with_node w undefined [] sites) d.entry (Typed n)) (with_open w d.entry sites) (λ there. Ok (already there n))
+    (placed_is (with_node w undefined [] sites) d.entry (Typed n) none)
     (record {
       keeps = open_kept es g (Stands scope l kind ∷ g) begun w d.entry d.value sites i (widens es g scope l kind d.entry d.is) none d.there (ap has_body d.kind_is ∙ body) new is.1;
       later = open_later w d.entry sites none;
@@ -130,21 +130,21 @@ opens_fine es g begun w scope l kind d at i body =
 
 -- ---- definitions
 
-pub defined_fine : (es : List Entry) (g : List Introduction) (begun : ℕ → Type 0) (w : Lowered) (e number : ℕ) (node : Node) (held : List At) (at : At)
+pub defined_fine : (es : List Entry) (g : List Introduction) (begun : ℕ → Type 0) (w : Lowered) (e number : ℕ) (node : Node) (names : List (List ℕ)) (held : List At) (at : At)
     → Keeps es g (with_begun e begun) w → HasBody es e → slice_get w.places e ≡ Some (Some (Typed number)) → (begun e → ⊥) → IsDone g (suc e)
     → IsNode w.nodes node → (node ≡ undefined → ⊥) → IsNoFrame node
-    → Fine (Goes es g begun w) (counted w (members_in node) at >> λ v. node_set v number node held)
-defined_fine es g begun w e number node held at i body place ended done right defined plain =
-    and_then (Counts es g (with_begun e begun) w (members_in node)) (Goes es g begun w) (counted w (members_in node) at) (λ v. node_set v number node held)
+    → Fine (Goes es g begun w) (counted w (members_in node) at >> λ v. node_set v number node names held)
+defined_fine es g begun w e number node names held at i body place ended done right defined plain =
+    and_then (Counts es g (with_begun e begun) w (members_in node)) (Goes es g begun w) (counted w (members_in node) at) (λ v. node_set v number node names held)
     (counted_fine es g (with_begun e begun) w (members_in node) at i) (λ v counts.
     let there : slice_get v.places e ≡ Some (Some (Typed number)) = ap (λ ps. slice_get ps e) counts.places ∙ place in
     let open_yet = counts.keeps.ahead e number body there (inr (inl refl)) in
     let right_there = subst (λ graph. IsNode graph node) (sym counts.nodes) right in
     let room : all_members v.nodes + members_in node ≤ v.members = subst (λ graph. all_members graph + members_in node ≤ v.members) (sym counts.nodes) counts.room in
-    subst (Fine (Goes es g begun w)) (sym (node_set_is v number node held open_yet))
+    subst (Fine (Goes es g begun w)) (sym (node_set_is v number node names held open_yet))
     (record {
-      keeps = define_kept es g begun v e number node held counts.keeps body there ended done right_there defined plain room;
-      later = later_on w v (with_defined v number node held) counts.later (define_later v number node held open_yet plain);
+      keeps = define_kept es g begun v e number node names held counts.keeps body there ended done right_there defined plain room;
+      later = later_on w v (with_defined v number node names held) counts.later (define_later v number node names held open_yet plain);
     }))
 
 goes_wrote : (es : List Entry) (g : List Introduction) (begun : ℕ → Type 0) (w v : Lowered) (e n : ℕ) → Goes es g begun w v → slice_get w.places e ≡ Some (Some (Typed n))
@@ -191,7 +191,7 @@ struct_closes es g begun w e at o m b more h done =
     let node = Struct m.members.numbers in
     let some = h.right.some in
     and_then (Goes es more begun v) (Wrote es more begun w) (struct_defined m number at) (λ behind. Ok (already behind number))
-    (defined_fine es more begun v e number node m.members.sites at h.keeps b.body place b.ended done (omega (arith, some), h.right.members) (defined m.members.numbers some) tt)
+    (defined_fine es more begun v e number node m.members.names m.members.sites at h.keeps b.body place b.ended done (omega (arith, some), h.right.members) (defined m.members.numbers some) tt)
     (λ u goes. wrote_on es more begun w v (already u number) (later_on w o.lowered v b.later h.later) (goes_wrote es more begun v u e number goes place))
   where
     defined : (ns : List ℕ) → 1 ≤ length ns → Struct ns ≡ undefined → ⊥
@@ -211,8 +211,8 @@ union_closes es g begun w e at o s c b more h done =
     let place = h.later.places e (Typed number) b.place in
     and_then (Goes es more begun v) (Wrote es more begun w) (union_defined s c number at) (λ behind. Ok (already behind number))
     (and_then (λ u. IsNeeded s count c.arms.default) (Goes es more begun v) (default_test s count c.arms.default) _ (default_fine s count c.arms.default) (λ u needed.
-    subst (λ k. Fine (Goes es more begun v) (counted v k at >> λ x. node_set x number node held)) (length-map c.arms.arms numbered_arm)
-    (defined_fine es more begun v e number node held at h.keeps b.body place b.ended done (union_right v.nodes s c.arms h.switch h.arms needed) (λ is. cc) tt)))
+    subst (λ k. Fine (Goes es more begun v) (counted v k at >> λ x. node_set x number node c.arms.names held)) (length-map c.arms.arms numbered_arm)
+    (defined_fine es more begun v e number node c.arms.names held at h.keeps b.body place b.ended done (union_right v.nodes s c.arms h.switch h.arms needed) (λ is. cc) tt)))
     (λ u goes. wrote_on es more begun w v (already u number) (later_on w o.lowered v b.later h.later) (goes_wrote es more begun v u e number goes place))
 
 -- ---- types

@@ -1,6 +1,6 @@
 -- Structures, unions and their members: what is kept stays so.
 use Rattle.std.proofs.Common.{◌≡◌, ◌∙◌, ℕ, ◌+◌, ◌≤◌, Bool, true, false, List, [], ◌∷◌, ◌++◌, length, length-append, Option, Some, None, Result, Ok, Err, refl, sym, ap, subst, arith, ℤ}
-use Rattle.std.specs.Prelude.{◌&&◌, ◌||◌, if◌then◌else◌, is_some, slice_get}
+use Rattle.std.specs.Prelude.{◌&&◌, if◌then◌else◌, slice_get}
 use Rattle.std.specs.List.{AllByRecursion, flat_map}
 use Rattle.std.proofs.lemmas.List.Elements.{All-push}
 use Rattle.idl_tree.specs.declared.names.At.{At}
@@ -32,14 +32,13 @@ use Rattle.scoped_names.proofs.OnlyMemory.{there_is}
 use Rattle.scoped_names.proofs.Parts.{Closed, both_closed, closed, each_closed}
 use Rattle.lowered_types.specs.declared.fault.BuildFault.{BuildFault}
 use Rattle.lowered_types.specs.declared.fault.BuildFault.TheVariants.{Types}
-use Rattle.lowered_types.specs.declared.fault.TypeFault.TheVariants.{LabelRange, LabelTwice}
 use Rattle.lowered_types.specs.declared.fault.TypeKind.{TypeKind}
 use Rattle.lowered_types.specs.declared.labels.Switch.{Switch}
 use Rattle.lowered_types.specs.TypeKinds.{kind_of}
 use Rattle.lowered_types.specs.Faults.{at_most, each, max_members, of_names}
 use Rattle.lowered_types.specs.Labels.{Arms, CaseLabels, Switched, is_value, label_added, label_number, label_value, label_within, no_labels, switch_kind, switch_at, switch_of, switch_read, switch_type, switched, value_added, values_of, default_before, once_test, out_of_range}
 use Rattle.lowered_types.specs.Members.{Members}
-use Rattle.lowered_types.specs.SimpleTypes.{array_type, declarator_at, entry_found, entry_of, integer_number, type_found}
+use Rattle.lowered_types.specs.SimpleTypes.{array_type, declarator_at, declarator_name, entry_found, entry_of, integer_number, type_found}
 use Rattle.lowered_types.specs.Types.{Cases, WithMembers, case_added, member_added, members_added, with_declarator, with_declarators, with_members_of}
 use Rattle.lowered_types.specs.Lowered.{Numbered, Lowered, already}
 use Rattle.lowered_types.proofs.RisingArms.{AreArms, AreLabels, arms_stay, case_arms, value_fine}
@@ -70,9 +69,9 @@ first_end : (ns : List ℕ) (m n : ℕ) → slice_get ns 0 ≡ Some n → slice_
 first_end [] m n is = absurd cc
 first_end (k ∷ ns) m n is = is
 
-pub member_fine : (graph : List Node) (before : List ℕ) (least : ℕ) (ms : Members) (number : ℕ) (at : At) → AreRight graph before least ms → IsPart graph number
-    → Fine (AreRight graph before 1) (member_added ms number at)
-member_fine graph before least ms number at h part =
+pub member_fine : (graph : List Node) (before : List ℕ) (least : ℕ) (ms : Members) (name : List ℕ) (number : ℕ) (at : At) → AreRight graph before least ms → IsPart graph number
+    → Fine (AreRight graph before 1) (member_added ms name number at)
+member_fine graph before least ms name number at h part =
     and_then (λ k. (k ≡ length ms.numbers + 1) × (length ms.numbers + 1 ≤ max_members)) (AreRight graph before 1)
     (at_most max_members MembersLimit at (length ms.numbers + 1)) _ (at_most_fine max_members MembersLimit at (length ms.numbers + 1)) (λ k fits.
     let long = length-append ms.numbers (number ∷ []) in
@@ -99,9 +98,9 @@ declarator_keeps es g begun w before least scope number m d h part (s, ss) =
     let there = part_stays w.nodes m.lowered.nodes h.later.nodes number part in
     and_then (Adds es g begun m.lowered) (HasMembers es more begun w before 1) (array_type es scope (already m.lowered number) d) _
     (array_keeps es g _ begun m.lowered scope (already m.lowered number) d (still_fine es g begun m.lowered number h.keeps there) ss) (λ a adds.
-    and_then (AreRight a.lowered.nodes before 1) (HasMembers es more begun w before 1) (member_added m.members a.number (declarator_at d))
+    and_then (AreRight a.lowered.nodes before 1) (HasMembers es more begun w before 1) (member_added m.members (declarator_name d) a.number (declarator_at d))
     (λ ms. Ok (with_members_of a.lowered ms))
-    (member_fine a.lowered.nodes before least m.members a.number (declarator_at d) (right_later m.lowered a.lowered before least m.members adds.later h.right) adds.part) (λ ms right.
+    (member_fine a.lowered.nodes before least m.members (declarator_name d) a.number (declarator_at d) (right_later m.lowered a.lowered before least m.members adds.later h.right) adds.part) (λ ms right.
     record {
       keeps = silent_keeps es g begun a.lowered scope (declarator_steps d) (tt, each_silent size_step (λ size. tt) d.sizes.items) (s, ss) adds.keeps;
       later = later_on w m.lowered a.lowered h.later adds.later;
@@ -278,5 +277,5 @@ added_case es g begun w scope s c labels type t d h settled typed =
       keeps = silent_keeps es behind_type begun a.lowered scope ds (tt, each_silent size_step (λ size. tt) d.sizes.items) settled_ds adds.keeps;
       later = later_on w c.lowered a.lowered h.later on;
       switch = switch_stays c.lowered.nodes a.lowered.nodes on.nodes s h.switch;
-      arms = case_arms a.lowered.nodes s c.arms a.number (declarator_at d) m (arms_stay c.lowered.nodes a.lowered.nodes on.nodes s c.arms h.arms) are adds.part;
+      arms = case_arms a.lowered.nodes s c.arms (declarator_name d) a.number (declarator_at d) m (arms_stay c.lowered.nodes a.lowered.nodes on.nodes s c.arms h.arms) are adds.part;
     }))))

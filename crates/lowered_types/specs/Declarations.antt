@@ -1,6 +1,6 @@
 -- What the declarations of modules and interfaces are lowered to (ISO/IEC 19500-1, type, constant and exception
 -- declaration).
-use Rattle.std.specs.Prelude.{ℕ, ◌+◌, List, [], ◌∷◌, length, Result, Ok}
+use Rattle.std.specs.Prelude.{ℕ, ◌+◌, List, [], ◌∷◌, length, codes, Result, Ok}
 use Rattle.idl_tree.specs.declared.names.At.{At}
 use Rattle.idl_tree.specs.declared.names.Leaf.{Leaf}
 use Rattle.idl_tree.specs.declared.types.Declarator.{Declarator}
@@ -42,15 +42,15 @@ type_dcl es w scope (TypeDcls.Enum e) = enum_type es w scope e >> λ n. Ok n.low
 type_dcl es w scope (TypeDcls.StructAhead id) = ahead es w scope id
 type_dcl es w scope (TypeDcls.UnionAhead id) = ahead es w scope id
 
--- the first member of an exception's frame is the repository id, a string
+-- the first member of an exception's frame is the repository id, a string (the name is our own)
 abbrev pub id_member : At → Members
-id_member at = record { numbers = 9 ∷ []; sites = at ∷ [] }
+id_member at = record { numbers = 9 ∷ []; sites = at ∷ []; names = codes "_id" ∷ [] }
 
 -- a frame behind the types of its members, which the exception of the entry has
 abbrev pub exception_added : WithMembers → ℕ → At → Result Lowered BuildFault
 exception_added m e at =
     counted m.lowered (length m.members.numbers) at >> λ w.
-    added w (Frame m.members.numbers) (record { at = at; held = m.members.sites }) >> λ frame.
+    added w (Frame m.members.numbers) m.members.names (record { at = at; held = m.members.sites }) >> λ frame.
     raised_at frame.lowered e frame.number
 
 abbrev pub except : List Entry → Lowered → ℕ → Except → Result Lowered BuildFault

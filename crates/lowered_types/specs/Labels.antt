@@ -142,13 +142,15 @@ label_value es scope s e =
 
 -- ---- arms
 
--- the arms of a union in rising order of their labels, and the one of every other value
+-- the arms of a union in rising order of their labels, and the one of every other value; what the members are called,
+-- in the order of the text
 pub record Arms : Type 0 where
   pub arms : List Arm
   pub default : Option DefaultArm
+  pub names : List (List ℕ)
 
 abbrev pub no_arms : Arms
-no_arms = record { arms = []; default = None }
+no_arms = record { arms = []; default = None; names = [] }
 
 -- the value of a label, and where it stands
 abbrev pub labelled : ℤ → At → LabelValue
@@ -220,8 +222,9 @@ with_default default number at None = default
 with_default default number at (Some keyword) =
     Some (record { number = number; at = at; keyword = keyword })
 
-abbrev pub with_case : Arms → ℕ → At → CaseLabels → Arms
-with_case a number at ls = record {
+abbrev pub with_case : Arms → List ℕ → ℕ → At → CaseLabels → Arms
+with_case a name number at ls = record {
   arms = with_arms a.arms number at ls.values;
   default = with_default a.default number at ls.default;
+  names = a.names ++ name ∷ [];
 }

@@ -15,10 +15,12 @@ use Rattle.lowered_types.specs.declared.place.Place.TheVariants.{Typed, Raised, 
 use Rattle.lowered_types.specs.Faults.{at_most, max_all_members, max_nodes}
 use Rattle.type_paths.specs.Sites.{Sites}
 
--- the nodes so far; what each entry among the names has; the exceptions, each by its entry and its frame; where
--- the nodes behind the basic types stand; how many members all types have
+-- the nodes so far; for each the names of its parts, of which it has none before its definition; what each entry among
+-- the names has; the exceptions, each by its entry and its frame; where the nodes behind the basic types stand; how
+-- many members all types have
 pub record Lowered : Type 0 where
   pub nodes : List Node
+  pub names : List (List (List ℕ))
   pub places : List (Option Place)
   pub exceptions : List (ℕ × ℕ)
   pub sites : List Sites
@@ -28,6 +30,7 @@ pub record Lowered : Type 0 where
 abbrev pub unlowered : ℕ → Lowered
 unlowered entries = record {
   nodes = basic_nodes;
+  names = replicate 14 [];
   places = replicate entries None;
   exceptions = [];
   sites = [];
@@ -45,24 +48,26 @@ pub record Numbered : Type 0 where
 abbrev pub already : Lowered → ℕ → Numbered
 already w n = record { number = n; lowered = w }
 
-abbrev pub with_node : Lowered → Node → Sites → Lowered
-with_node w node sites = record w { nodes = w.nodes ++ node ∷ []; sites = w.sites ++ sites ∷ [] }
+-- a node more, whose parts have the names
+abbrev pub with_node : Lowered → Node → List (List ℕ) → Sites → Lowered
+with_node w node names sites =
+    record w { nodes = w.nodes ++ node ∷ []; names = w.names ++ names ∷ []; sites = w.sites ++ sites ∷ [] }
 
 -- the number of the node that is lowered next
 abbrev pub next : Lowered → ℕ
 next w = length w.nodes
 
 -- a node that gets the next number
-abbrev pub added : Lowered → Node → Sites → Result Numbered BuildFault
-added w node sites =
-    at_most max_nodes Nodes sites.at (next w + 1) >> λ n. Ok (already (with_node w node sites) (next w))
+abbrev pub added : Lowered → Node → List (List ℕ) → Sites → Result Numbered BuildFault
+added w node names sites =
+    at_most max_nodes Nodes sites.at (next w + 1) >> λ n. Ok (already (with_node w node names sites) (next w))
 
 abbrev pub one_site : At → Sites
 one_site at = record { at = at; held = at ∷ [] }
 
--- a node at `at` that holds one other at most
+-- a node at `at` that holds one other at most, and no parts with names
 abbrev pub added_at : Lowered → Node → At → Result Numbered BuildFault
-added_at w node at = added w node (one_site at)
+added_at w node at = added w node [] (one_site at)
 
 abbrev pub with_held : List Sites → ℕ → List At → Option Sites → List Sites
 with_held sites place held None = sites
@@ -81,11 +86,15 @@ abbrev pub is_undefined : Option Node → Bool
 is_undefined (Some (Struct [])) = true
 is_undefined _ = false
 
--- in the place of what has no definition yet another node, which holds what stands there
-abbrev pub node_set : Lowered → ℕ → Node → List At → Result Lowered BuildFault
-node_set w number node held =
+-- in the place of what has no definition yet another node, whose parts have the names and stand there
+abbrev pub node_set : Lowered → ℕ → Node → List (List ℕ) → List At → Result Lowered BuildFault
+node_set w number node names held =
     (if is_undefined (slice_get w.nodes number)
-    then Ok (record w { nodes = slice_set w.nodes number node; sites = held_at w.sites number held })
+    then Ok (record w {
+      nodes = slice_set w.nodes number node;
+      names = slice_set w.names number names;
+      sites = held_at w.sites number held;
+    })
     else Err OtherNames)
 
 -- so many members more, of a type that stands there
@@ -125,12 +134,12 @@ abbrev pub type_of : Lowered → ℕ → Option ℕ
 type_of w e = type_in (slice_get w.places e)
 
 -- a type that gets the next number, which the entry is the name of
-abbrev pub named_type : Lowered → ℕ → Node → At → Result Numbered BuildFault
-named_type w e node at =
-    added_at w node at >> λ a. placed a.lowered e (Typed a.number) >> λ there. Ok (already there a.number)
+abbrev pub named_type : Lowered → ℕ → Node → List (List ℕ) → At → Result Numbered BuildFault
+named_type w e node names at =
+    added w node names (one_site at) >> λ a. placed a.lowered e (Typed a.number) >> λ there. Ok (already there a.number)
 
 abbrev pub opened_as : Lowered → ℕ → At → Option ℕ → Result Numbered BuildFault
-opened_as w e at None = named_type w e undefined at
+opened_as w e at None = named_type w e undefined [] at
 opened_as w e at (Some n) = Ok (already w n)
 
 -- a structure or a union that is declared there: it gets its number at its first declaration

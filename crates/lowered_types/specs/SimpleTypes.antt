@@ -1,7 +1,7 @@
 -- The types that declare nothing, arrays and enumerations (ISO/IEC 19500-1, type declaration): each clause says which
 -- number a type has and what is lowered behind it, where `w` is what is lowered before it. A bound or a size is worth
 -- what its expression is worth in the scope, and a name stands for what it finds there.
-use Rattle.std.specs.Prelude.{ℕ, List, [], ◌∷◌, length, Option, Some, None, Result, Ok}
+use Rattle.std.specs.Prelude.{ℕ, List, [], ◌∷◌, length, map, Option, Some, None, Result, Ok}
 use Rattle.idl_tree.specs.declared.names.At.{At}
 use Rattle.idl_tree.specs.declared.names.Leaf.{Leaf}
 use Rattle.idl_tree.specs.declared.names.ScopedName.{ScopedName}
@@ -103,6 +103,10 @@ arrays element at (n ∷ ns) =
 abbrev pub declarator_at : Declarator → At
 declarator_at d = leaf_at d.identifier
 
+-- what it declares is called
+abbrev pub declarator_name : Declarator → List ℕ
+declarator_name d = word d.identifier
+
 -- the type of a declarator: its sizes are judged before there is an array
 abbrev pub array_type : List Entry → ℕ → Numbered → Declarator → Result Numbered BuildFault
 array_type es scope element d = sizes_read es scope d.sizes.items >> λ ns. arrays element (declarator_at d) ns
@@ -111,4 +115,4 @@ abbrev pub enum_type : List Entry → Lowered → ℕ → EnumType → Result Nu
 enum_type es w scope e =
     entry_of es scope e.identifier >> λ entry.
     at_most max_enumerators Enumerators (leaf_at e.identifier) (length (parts e.enumerators.value)) >> λ n.
-    named_type w entry (Enum n) (leaf_at e.identifier)
+    named_type w entry (Enum n) (map word (parts e.enumerators.value)) (leaf_at e.identifier)

@@ -24,7 +24,7 @@ use Rattle.lowered_types.specs.declared.labels.Switch.{Switch}
 use Rattle.lowered_types.specs.Faults.{at_most, each, max_members}
 use Rattle.lowered_types.specs.Members.{Members}
 use Rattle.lowered_types.specs.Lowered.{Lowered, Numbered, already, counted, node_set, opened}
-use Rattle.lowered_types.specs.SimpleTypes.{array_type, declarator_at, entry_of, enum_type, simple_type}
+use Rattle.lowered_types.specs.SimpleTypes.{array_type, declarator_at, declarator_name, entry_of, enum_type, simple_type}
 use Rattle.lowered_types.specs.Labels.{Arms, label_added, no_arms, no_labels, switch_read, with_case}
 
 -- ---- members
@@ -38,18 +38,22 @@ abbrev pub with_members_of : Lowered → Members → WithMembers
 with_members_of w ms = record { lowered = w; members = ms }
 
 abbrev pub no_members : Members
-no_members = record { numbers = []; sites = [] }
+no_members = record { numbers = []; sites = []; names = [] }
 
 -- a member more, whose type has the number
-abbrev pub member_added : Members → ℕ → At → Result Members BuildFault
-member_added ms number at = at_most max_members MembersLimit at (length ms.numbers + 1) >> λ n.
-    Ok (record { numbers = ms.numbers ++ number ∷ []; sites = ms.sites ++ at ∷ [] })
+abbrev pub member_added : Members → List ℕ → ℕ → At → Result Members BuildFault
+member_added ms name number at =
+    at_most max_members MembersLimit at (length ms.numbers + 1) >> λ n. Ok (record {
+      numbers = ms.numbers ++ number ∷ [];
+      sites = ms.sites ++ at ∷ [];
+      names = ms.names ++ name ∷ [];
+    })
 
 -- one declarator more, of the type that has the number
 abbrev pub with_declarator : List Entry → ℕ → ℕ → WithMembers → Declarator → Result WithMembers BuildFault
 with_declarator es scope number m d =
     array_type es scope (already m.lowered number) d >> λ a.
-    member_added m.members a.number (declarator_at d) >> λ ms. Ok (with_members_of a.lowered ms)
+    member_added m.members (declarator_name d) a.number (declarator_at d) >> λ ms. Ok (with_members_of a.lowered ms)
 
 abbrev pub with_declarators : List Entry → ℕ → Numbered → Members → Listed Declarator → Result WithMembers BuildFault
 with_declarators es scope t ms ds = each (with_declarator es scope t.number) (with_members_of t.lowered ms) (parts ds)
@@ -63,7 +67,7 @@ members_added es scope ms type ds = type >> λ t. with_declarators es scope t ms
 abbrev pub struct_defined : WithMembers → ℕ → At → Result Lowered BuildFault
 struct_defined m number at =
     counted m.lowered (length m.members.numbers) at >> λ w.
-    node_set w number (Struct m.members.numbers) m.members.sites
+    node_set w number (Struct m.members.numbers) m.members.names m.members.sites
 
 -- ---- cases
 
@@ -82,7 +86,7 @@ case_added es scope s c labels type d =
     each (label_added es scope s c.arms) no_labels (parts labels) >> λ ls.
     type c.lowered >> λ t.
     array_type es scope t d >> λ a.
-    Ok (cases_of a.lowered (with_case c.arms a.number (declarator_at d) ls))
+    Ok (cases_of a.lowered (with_case c.arms (declarator_name d) a.number (declarator_at d) ls))
 
 abbrev pub default_test : Switch → ℕ → Option DefaultArm → Result (Unit {0}) BuildFault
 default_test s count None = Ok tt
@@ -109,7 +113,7 @@ union_defined s c number at =
     default_test s (length c.arms.arms) c.arms.default >> λ u.
     counted c.lowered (length c.arms.arms) at >> λ w.
     node_set w number (Union s.number (map numbered_arm c.arms.arms) (default_number c.arms.default))
-    (map arm_at c.arms.arms ++ default_sites c.arms.default)
+    c.arms.names (map arm_at c.arms.arms ++ default_sites c.arms.default)
 
 -- ---- types
 

@@ -9,6 +9,8 @@ use crate::labels::{CaseLabels, Switch};
 use idl_tree::names::At;
 use std::alloc::{AllocError, Global};
 use std::marker::Model;
+use type_graph::Items;
+use type_model::Name;
 
 /// What a label of a union chooses: a member whose type has the number; where the label and the
 /// member's declarator stand.
@@ -28,11 +30,13 @@ pub(crate) struct DefaultArm {
     pub keyword: At,
 }
 
-/// The arms of a union in rising order of their labels, and what every other value chooses.
+/// The arms of a union in rising order of their labels, and what every other value chooses; what the
+/// members are called, in the order of the text.
 #[derive(Drop)]
 pub(crate) struct ArmList {
     arms: Vec<Arm>,
     default: Option<DefaultArm>,
+    names: Vec<Name>,
 }
 
 impl Model for ArmList {
@@ -40,7 +44,7 @@ impl Model for ArmList {
 
     ghost Value = { Arms };
 
-    ghost view = { λ a. record { arms = a.arms.items; default = a.default } };
+    ghost view = { λ a. record { arms = a.arms.items; default = a.default; names = a.names.items } };
 }
 
 /// Before which arm a label comes: the first whose label is greater.
@@ -64,6 +68,7 @@ impl ArmList {
         ArmList {
             arms: Vec::new(alloc),
             default: None,
+            names: Vec::new(alloc),
         }
     }
 
@@ -104,12 +109,18 @@ impl ArmList {
         Ok(())
     }
 
-    /// A case more, whose member has a type of the number and stands there.
+    /// A case more, whose member has the name and a type of the number, and stands there.
     ///
     /// # Errors
     /// Want of memory.
-    pub fn add_case(&mut self, number: u32, at: At, labels: &CaseLabels) -> Result<(), AllocError>
-        ensures { OnOk result (self.new ≡ with_case self.old number at labels.now) }
+    pub fn add_case(
+        &mut self,
+        name: Name,
+        number: u32,
+        at: At,
+        labels: &CaseLabels,
+    ) -> Result<(), AllocError>
+        ensures { OnOk result (self.new ≡ with_case self.old name number at labels.now) }
     {
         for label in labels.values() {
             self.insert(Arm {
@@ -126,6 +137,7 @@ impl ArmList {
                 keyword,
             });
         }
+        self.names.push(name)?;
         Ok(())
     }
 
@@ -164,6 +176,18 @@ impl ArmList {
             Some(arm) => Some(arm.number),
             None => None,
         }
+    }
+
+    /// Gives the names of the members. Takes no memory.
+    pub fn into_names(self) -> Items<Name>
+        ensures { result ≡ self.names }
+    {
+        let ArmList {
+            arms: _,
+            default: _,
+            names,
+        } = self;
+        Items::new(names)
     }
 
     /// Where the members stand.

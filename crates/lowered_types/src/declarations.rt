@@ -25,7 +25,7 @@ use type_paths::NodeSites;
 fn id_member(alloc: Global, at: At) -> Result<MemberList, BuildFault>
     ensures { Tells result (λ members. members) (Ok (id_member at)) }
 {
-    MemberList::new(alloc).with_member(basic_types::STRING, at)
+    MemberList::new(alloc).with_member(alloc, "_id", basic_types::STRING, at)
 }
 
 impl TypeTable {
@@ -34,8 +34,8 @@ impl TypeTable {
         ensures { Tells result (λ u. self.new) (exception_added (with_members_of self.old members) entry at) }
     {
         self.count_members(members.len(), at)?;
-        let (members, held) = members.into_parts();
-        let frame = self.add(Node::Frame { members }, NodeSites::new(at, held))?;
+        let (members, names, held) = members.into_parts();
+        let frame = self.add(Node::Frame { members }, names, NodeSites::new(at, held))?;
         self.raise(entry, frame)
     }
 

@@ -13,19 +13,25 @@ use idl_tree::names::At;
 use idl_tree::types::ParamType;
 use scoped_names::{Names, Scope};
 use std::alloc::Global;
-use type_graph::Node;
+use type_graph::{Items, Node};
+use type_model::Name;
 use type_paths::NodeSites;
 
 impl TypeTable {
-    /// A node more, with its sites; gives its number.
+    /// A node more, with the names of its parts and its sites; gives its number.
     ///
     /// # Errors
     /// `Limit` where there are 4,096, want of memory.
-    pub fn with_node(self, node: Node, sites: NodeSites) -> Result<(TypeTable, u32), BuildFault>
-        ensures { Tells result (λ r. already r.0 r.1) (added self node sites) }
+    pub fn with_node(
+        self,
+        node: Node,
+        names: Items<Name>,
+        sites: NodeSites,
+    ) -> Result<(TypeTable, u32), BuildFault>
+        ensures { Tells result (λ r. already r.0 r.1) (added self node names sites) }
     {
         let mut table = self;
-        let number = table.add(node, sites)?;
+        let number = table.add(node, names, sites)?;
         Ok((table, number))
     }
 

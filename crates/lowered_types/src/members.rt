@@ -9,15 +9,17 @@ use crate::fault::{BuildFault, at_most};
 use idl_tree::names::At;
 use std::alloc::Global;
 use std::marker::Model;
-use type_graph::{GraphLimit, Members};
+use type_graph::{GraphLimit, Items, Members};
+use type_model::Name;
 
 pub(crate) const MAX_MEMBERS: u32 = 1024;
 
-/// The members of a structure or a frame. A contract sees the numbers of their types, and where
-/// their declarators stand.
+/// The members of a structure or a frame. A contract sees the numbers of their types, where their
+/// declarators stand, and what they are called.
 pub struct MemberList {
     numbers: Vec<u32>,
     sites: Vec<At>,
+    names: Vec<Name>,
 }
 
 impl Model for MemberList {
@@ -25,7 +27,7 @@ impl Model for MemberList {
 
     ghost Value = { Members };
 
-    ghost view = { λ m. record { numbers = m.numbers.items; sites = m.sites.items } };
+    ghost view = { λ m. record { numbers = m.numbers.items; sites = m.sites.items; names = m.names.items } };
 }
 
 impl Drop for MemberList {
@@ -33,6 +35,7 @@ impl Drop for MemberList {
         let MemberList {
             numbers: _,
             sites: _,
+            names: _,
         } = self;
     }
 }
@@ -45,6 +48,7 @@ impl MemberList {
         MemberList {
             numbers: Vec::new(alloc),
             sites: Vec::new(alloc),
+            names: Vec::new(alloc),
         }
     }
 
@@ -60,6 +64,7 @@ impl MemberList {
         Ok(MemberList {
             numbers: Vec::with_capacity(alloc, room)?,
             sites: Vec::with_capacity(alloc, room)?,
+            names: Vec::with_capacity(alloc, room)?,
         })
     }
 
@@ -67,11 +72,18 @@ impl MemberList {
     ///
     /// # Errors
     /// `Limit` where there are 1,024, want of memory.
-    pub(crate) fn push(&mut self, number: u32, at: At) -> Result<(), BuildFault>
-        ensures { Tells result (λ u. self.new) (member_added self.old number at) }
+    pub(crate) fn push(
+        &mut self,
+        alloc: Global,
+        name: &str,
+        number: u32,
+        at: At,
+    ) -> Result<(), BuildFault>
+        ensures { Tells result (λ u. self.new) (member_added self.old name.now number at) }
     {
         let count = self.numbers.len() as u128 + 1;
         at_most(MAX_MEMBERS, GraphLimit::Members, at, count)?;
+        self.names.push(Name::copied(alloc, name)?)?;
         self.sites.push(at)?;
         self.numbers.push(number)?;
         Ok(())
@@ -81,11 +93,17 @@ impl MemberList {
     ///
     /// # Errors
     /// `Limit` where there are 1,024, want of memory.
-    pub fn with_member(self, number: u32, at: At) -> Result<MemberList, BuildFault>
-        ensures { Tells result (λ members. members) (member_added self number at) }
+    pub fn with_member(
+        self,
+        alloc: Global,
+        name: &str,
+        number: u32,
+        at: At,
+    ) -> Result<MemberList, BuildFault>
+        ensures { Tells result (λ members. members) (member_added self name.now number at) }
     {
         let mut members = self;
-        members.push(number, at)?;
+        members.push(alloc, name, number, at)?;
         Ok(members)
     }
 
@@ -96,12 +114,17 @@ impl MemberList {
         self.numbers.len()
     }
 
-    /// Gives the members and where they stand. Takes no memory.
-    pub fn into_parts(self) -> (Members, Vec<At>)
+    /// Gives the members, what they are called and where they stand. Takes no memory.
+    pub fn into_parts(self) -> (Members, Items<Name>, Vec<At>)
         ensures numbers { result.0 ≡ self.numbers }
-        ensures sites { result.1.items ≡ self.sites }
+        ensures names { result.1 ≡ self.names }
+        ensures sites { result.2.items ≡ self.sites }
     {
-        let MemberList { numbers, sites } = self;
-        (Members::new(numbers), sites)
+        let MemberList {
+            numbers,
+            sites,
+            names,
+        } = self;
+        (Members::new(numbers), Items::new(names), sites)
     }
 }

@@ -1,6 +1,8 @@
 //! Types that declare nothing, arrays and enumerations.
 
-ghost use Rattle.std.specs.Prelude.{◌≡◌, ◌≤◌, length};
+ghost use Rattle.std.specs.Prelude.{◌≡◌, ◌≤◌, length, map, IfOk};
+ghost use Rattle.idl_tree.specs.Lists.{parts};
+ghost use Rattle.name_table.specs.Search.{word};
 ghost use Rattle.lowered_types.specs.Faults.{Tells};
 ghost use Rattle.lowered_types.specs.SimpleTypes.{array_type, arrays, const_type, enum_type, param_type, simple_type};
 ghost use Rattle.lowered_types.specs.Lowered.{already};
@@ -8,11 +10,12 @@ ghost use Rattle.lowered_types.specs.Lowered.{already};
 use crate::fault::{BuildFault, at_most};
 use crate::readings::{declared_entry, integer_number, read_bound, read_bound_or_none, read_sizes};
 use crate::table::{TypeTable, find_type};
-use idl_tree::names::At;
+use idl_tree::names::{At, Leaf, Listed};
 use idl_tree::types::{ConstType, Declarator, EnumType, ParamType, SimpleType};
 use scoped_names::{Names, Scope};
-use std::alloc::Global;
-use type_graph::{GraphLimit, Node};
+use std::alloc::{AllocError, Global};
+use type_graph::{GraphLimit, Items, Node};
+use type_model::Name;
 
 const MAX_ENUMERATORS: u32 = 65536;
 
@@ -131,6 +134,17 @@ pub(crate) fn lower_arrays<'a>(
     table.add_arrays(alloc, elem, at, counts.as_slice())
 }
 
+/// What identifiers are called.
+fn names_of<'a>(alloc: Global, identifiers: &Listed<Leaf<'a>>) -> Result<Items<Name>, AllocError>
+    ensures { IfOk result (λ names. names ≡ map word (parts identifiers.now)) }
+{
+    let mut names = Vec::new(alloc);
+    for identifier in identifiers.iter() {
+        names.push(Name::copied(alloc, identifier.name())?)?;
+    }
+    Ok(Items::new(names))
+}
+
 /// An enumeration; gives its number.
 ///
 /// # Errors
@@ -148,5 +162,6 @@ pub(crate) fn lower_enum<'a>(
     let entry = declared_entry(names, scope, e.identifier)?;
     let count = e.enumerators.len() as u128;
     let n = at_most(MAX_ENUMERATORS, GraphLimit::Enumerators, at, count)?;
-    table.add_named(alloc, entry, Node::Enum { n }, at)
+    let names = names_of(alloc, &e.enumerators)?;
+    table.add_named(alloc, entry, Node::Enum { n }, names, at)
 }

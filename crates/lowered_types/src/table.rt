@@ -1,6 +1,6 @@
 //! The types that are lowered so far.
 
-ghost use Rattle.std.specs.Prelude.{◌≡◌, ◌≤◌, [], length, slice_get, Ok};
+ghost use Rattle.std.specs.Prelude.{◌≡◌, ◌≤◌, [], length, replicate, slice_get, slice_set, IfOk, Ok};
 ghost use Rattle.lowered_types.specs.Faults.{Tells};
 ghost use Rattle.lowered_types.specs.SimpleTypes.{type_found};
 ghost use Rattle.lowered_types.specs.Lowered.{added, added_at, already, counted, held_at, is_undefined as has_no_definition, named_type, node_set, one_site, opened as opened_of, place_of, placed, raised_at, type_of, undefined as undefined_node, unlowered};
@@ -11,9 +11,10 @@ use crate::readings::resolved;
 use basic_types::basic_nodes;
 use idl_tree::names::{At, ScopedName};
 use scoped_names::{Names, Scope};
-use std::alloc::Global;
+use std::alloc::{AllocError, Global};
 use std::marker::Model;
-use type_graph::{GraphLimit, Members, Node};
+use type_graph::{GraphLimit, Items, Members, Node};
+use type_model::Name;
 use type_paths::NodeSites;
 
 const MAX_NODES: u32 = 4096;
@@ -24,10 +25,11 @@ const MAX_ALL_MEMBERS: u32 = 32768;
 const BASIC_MEMBERS: usize = 4;
 
 /// The types that are lowered so far, and what the entries among the names have of them. A contract
-/// sees the nodes, what each entry has, the exceptions, where the nodes behind the basic types
-/// stand, and how many members all types have.
+/// sees the nodes, the names of their parts, what each entry has, the exceptions, where the nodes
+/// behind the basic types stand, and how many members all types have.
 pub struct TypeTable {
     nodes: Vec<Node>,
+    names: Vec<Items<Name>>,
     places: Vec<Option<Place>>,
     exceptions: Vec<(usize, u32)>,
     sites: Vec<NodeSites>,
@@ -39,7 +41,7 @@ impl Model for TypeTable {
 
     ghost Value = { Lowered };
 
-    ghost view = { λ t. record { nodes = t.nodes.items; places = t.places.items; exceptions = t.exceptions.items; sites = t.sites.items; members = t.members } };
+    ghost view = { λ t. record { nodes = t.nodes.items; names = t.names.items; places = t.places.items; exceptions = t.exceptions.items; sites = t.sites.items; members = t.members } };
 }
 
 // A derived drop would stand in each function that lets go of a table, field by field.
@@ -48,6 +50,7 @@ impl Drop for TypeTable {
     fn drop(self) {
         let TypeTable {
             nodes: _,
+            names: _,
             places: _,
             exceptions: _,
             sites: _,
@@ -63,6 +66,24 @@ fn undefined_type(alloc: Global) -> Node
     Node::Struct {
         members: Members::new(Vec::new(alloc)),
     }
+}
+
+/// The names of a node that has no parts with names. Takes no memory.
+fn no_names(alloc: Global) -> Items<Name>
+    ensures { result ≡ [] }
+{
+    Items::new(Vec::new(alloc))
+}
+
+/// Those of the basic types.
+fn basic_names(alloc: Global) -> Result<Vec<Items<Name>>, AllocError>
+    ensures { IfOk result (λ names. names.items ≡ replicate 14 []) }
+{
+    let mut names = Vec::new(alloc);
+    for _ in 0..basic_types::BASIC_NODES as usize {
+        names.push(no_names(alloc))?;
+    }
+    Ok(names)
 }
 
 /// Where a node stands that holds one other at most.
@@ -83,6 +104,7 @@ impl TypeTable {
     {
         Ok(TypeTable {
             nodes: basic_nodes(alloc)?,
+            names: basic_names(alloc)?,
             places: vec![in alloc; None; entries]?,
             exceptions: Vec::new(alloc),
             sites: Vec::new(alloc),
@@ -90,22 +112,28 @@ impl TypeTable {
         })
     }
 
-    /// A node more, with its sites; gives its number.
+    /// A node more, with the names of its parts and its sites; gives its number.
     ///
     /// # Errors
     /// `Limit` where there are 4,096, want of memory.
-    pub(crate) fn add(&mut self, node: Node, sites: NodeSites) -> Result<u32, BuildFault>
-        ensures { Tells result (already self.new) (added self.old node sites) }
+    pub(crate) fn add(
+        &mut self,
+        node: Node,
+        names: Items<Name>,
+        sites: NodeSites,
+    ) -> Result<u32, BuildFault>
+        ensures { Tells result (already self.new) (added self.old node names sites) }
     {
         let number = self.nodes.len();
         let count = number as u128 + 1;
         at_most(MAX_NODES, GraphLimit::Nodes, sites.at(), count)?;
         self.nodes.push(node)?;
+        self.names.push(names)?;
         self.sites.push(sites)?;
         Ok(number as u32)
     }
 
-    /// A node at `at` that holds one other at most.
+    /// A node at `at` that holds one other at most, and no parts with names.
     ///
     /// # Errors
     /// As `add`.
@@ -113,7 +141,7 @@ impl TypeTable {
         ensures { Tells result (already self.new) (added_at self.old node at) }
     {
         let sites = one_site(alloc, at)?;
-        self.add(node, sites)
+        self.add(node, no_names(alloc), sites)
     }
 
     /// An entry has this from now on.
@@ -159,11 +187,13 @@ impl TypeTable {
         alloc: Global,
         entry: usize,
         node: Node,
+        names: Items<Name>,
         at: At,
     ) -> Result<u32, BuildFault>
-        ensures { Tells result (already self.new) (named_type self.old entry node at) }
+        ensures { Tells result (already self.new) (named_type self.old entry node names at) }
     {
-        let number = self.add_at(alloc, node, at)?;
+        let sites = one_site(alloc, at)?;
+        let number = self.add(node, names, sites)?;
         self.put(entry, Place::Typed(number))?;
         Ok(number)
     }
@@ -178,7 +208,7 @@ impl TypeTable {
     {
         match self.type_at(entry) {
             Some(number) => Ok(number),
-            None => self.add_named(alloc, entry, undefined_type(alloc), at),
+            None => { self.add_named(alloc, entry, undefined_type(alloc), no_names(alloc), at) }
         }
     }
 
@@ -192,7 +222,8 @@ impl TypeTable {
         }
     }
 
-    /// What a structure or a union is, and where what it holds stands. Takes no memory.
+    /// What a structure or a union is, what its members are called and where they stand. Takes no
+    /// memory.
     ///
     /// # Errors
     /// `OtherNames` where there is no such node, or one that has a definition.
@@ -200,17 +231,29 @@ impl TypeTable {
         &mut self,
         number: u32,
         node: Node,
+        names: Items<Name>,
         held: Vec<At>,
     ) -> Result<(), BuildFault>
-        ensures { Tells result (λ u. self.new) (node_set self.old number node held.items) }
+        ensures { Tells result (λ u. self.new) (node_set self.old number node names held.items) }
     {
         let place = number as usize;
         if !self.is_undefined(place) {
             return Err(BuildFault::OtherNames);
         }
         self.nodes[place] = node;
+        self.set_names(place, names);
         self.set_held(place, held);
         Ok(())
+    }
+
+    /// What the parts of a node are called.
+    #[tactic(auto, using(std::proofs::lemmas::List::set_past))]
+    fn set_names(&mut self, number: usize, names: Items<Name>)
+        ensures { self.new ≡ record self.old { names = slice_set self.old.names number names } }
+    {
+        if number < self.names.len() {
+            self.names[number] = names;
+        }
     }
 
     /// Where what a node holds stands; a basic type has no sites.
@@ -285,6 +328,7 @@ impl TypeTable {
     {
         let TypeTable {
             nodes,
+            names,
             places,
             exceptions,
             sites: _,
@@ -292,6 +336,7 @@ impl TypeTable {
         } = self;
         TypeTable {
             nodes,
+            names,
             places,
             exceptions,
             sites: Vec::new(alloc),
@@ -299,18 +344,20 @@ impl TypeTable {
         }
     }
 
-    /// Gives the nodes back. Takes no memory.
-    pub fn into_nodes(self) -> Vec<Node>
-        ensures { result.items ≡ self.nodes }
+    /// Gives the nodes and the names of their parts back. Takes no memory.
+    pub fn into_parts(self) -> (Vec<Node>, Vec<Items<Name>>)
+        ensures nodes { result.0.items ≡ self.nodes }
+        ensures names { result.1.items ≡ self.names }
     {
         let TypeTable {
             nodes,
+            names,
             places: _,
             exceptions: _,
             sites: _,
             members: _,
         } = self;
-        nodes
+        (nodes, names)
     }
 }
 

@@ -17,6 +17,7 @@ use idl_tree::types::{Case, Declarator, Member, StructType, SwitchType, TypeSpec
 use scoped_names::{Names, Scope};
 use std::alloc::Global;
 use type_graph::{Arms, Node};
+use type_model::Name;
 
 impl TypeTable {
     /// A structure has these members.
@@ -24,8 +25,8 @@ impl TypeTable {
         ensures { Tells result (λ u. self.new) (struct_defined (with_members_of self.old members) number at) }
     {
         self.count_members(members.len(), at)?;
-        let (members, sites) = members.into_parts();
-        self.define(number, Node::Struct { members }, sites)
+        let (members, names, sites) = members.into_parts();
+        self.define(number, Node::Struct { members }, names, sites)
     }
 
     /// A union has this discriminator and these arms.
@@ -34,10 +35,10 @@ impl TypeTable {
         alloc: Global,
         number: u32,
         switch: Switch,
-        arms: &ArmList,
+        arms: ArmList,
         at: At,
     ) -> Result<(), BuildFault>
-        ensures { Tells result (λ u. self.new) (union_defined switch (cases_of self.old arms.now) number at) }
+        ensures { Tells result (λ u. self.new) (union_defined switch (cases_of self.old arms) number at) }
     {
         arms.check_default(switch)?;
         self.count_members(arms.len(), at)?;
@@ -46,7 +47,8 @@ impl TypeTable {
             arms: Arms::new(arms.numbers(alloc)?),
             default: arms.default_number(),
         };
-        self.define(number, union, arms.sites(alloc)?)
+        let sites = arms.sites(alloc)?;
+        self.define(number, union, arms.into_names(), sites)
     }
 }
 
@@ -66,7 +68,7 @@ fn lower_declarator<'a>(
 {
     let at = declarator.identifier.at();
     let number = lower_arrays(names, table, alloc, scope, number, declarator)?;
-    members.push(number, at)
+    members.push(alloc, declarator.identifier.name(), number, at)
 }
 
 /// Members of the type that has the number.
@@ -183,7 +185,8 @@ fn lower_case<'a>(
     let labels = read_labels(alloc, names, scope, switch, arms, &case.labels)?;
     let element = lower_type(names, table, alloc, scope, at, &case.member_type)?;
     let number = lower_arrays(names, table, alloc, scope, element, &case.declarator)?;
-    arms.add_case(number, at, &labels)?;
+    let name = Name::copied(alloc, case.declarator.identifier.name())?;
+    arms.add_case(name, number, at, &labels)?;
     Ok(())
 }
 
@@ -209,6 +212,6 @@ pub(crate) fn lower_union<'a>(
     for case in &u.rest {
         lower_case(names, table, alloc, inside, switch, case, &mut arms)?;
     }
-    table.define_union(alloc, number, switch, &arms, at)?;
+    table.define_union(alloc, number, switch, arms, at)?;
     Ok(number)
 }

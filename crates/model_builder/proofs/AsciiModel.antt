@@ -19,8 +19,8 @@ use Rattle.model_builder.specs.Ascii.{HasAsciiTexts, IsAsciiException, IsAsciiIn
 use Rattle.model_builder.specs.Naming.{called, mark_of, marked, name_of, names_at, names_of, names_of_place, scopes_of, with_colons}
 use Rattle.model_builder.specs.Shown.{model_of}
 use Rattle.model_builder.specs.Signatures.{exception_of, id_of, interface_of, interfaces_from, operation_of}
-use Rattle.lowered_names.proofs.AsciiNames.{AllAscii, SaysAscii, id_ascii, name_ascii, names_ascii, told_ascii, word_ascii}
-use Rattle.lowered_names.proofs.EntryWords.{AreProper}
+use Rattle.model_builder.proofs.AsciiNames.{AllAscii, SaysAscii, id_ascii, name_ascii, names_ascii, told_ascii, word_ascii}
+use Rattle.model_builder.proofs.EntryWords.{AreProper}
 use Rattle.model_builder.proofs.Joined.{mark_word}
 
 colons_ascii : (ns : List (List ℕ)) → AllAscii ns → IsAscii (with_colons ns)

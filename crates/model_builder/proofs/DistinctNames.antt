@@ -16,7 +16,7 @@ use Rattle.lowered_types.specs.Lowered.{Lowered, place_of}
 use Rattle.lowered_operations.specs.declared.signature.Role.{Role}
 use Rattle.lowered_operations.specs.declared.signature.Role.TheVariants.{Operation, Getting, Setting}
 use Rattle.model_builder.specs.Naming.{called, mark_of, marked, names_at, names_of, names_of_place, scopes_of, with_colons}
-use Rattle.lowered_names.proofs.EntryWords.{AreProper, IsNameWord}
+use Rattle.model_builder.proofs.EntryWords.{AreProper, IsNameWord}
 use Rattle.model_builder.proofs.Joined.{IsFree, Ending, Bare, Request, Reply, colons_apart, ending, ending_colons, endings_apart, free_both, mark_word, marks_apart, word_colons, word_slashes}
 
 -- ---- entries

@@ -1,3 +1,15 @@
+pub mod Nested
+pub mod EntryWords
+pub mod AsciiNames
+pub mod Picked
+pub mod Good
+pub mod PickedNames
+pub mod NamedNodes
+pub mod Labelled
+pub mod NamedTypes
+pub mod NamedDeclarations
+pub mod NamedCalls
+pub mod NamedFile
 pub mod Joined
 pub mod DistinctNames
 pub mod RightModel

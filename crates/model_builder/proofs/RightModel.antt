@@ -32,7 +32,8 @@ use Rattle.model_builder.specs.Naming.{names_at, names_of, names_of_place}
 use Rattle.model_builder.specs.Signatures.{exception_of, interfaces_from, operation_of}
 use Rattle.model_builder.specs.inner.Own.{IsOwn, IsLowered}
 use Rattle.model_builder.specs.inner.Theirs.{AreTheirs, HasFrames, IsOffered, IsSignature}
-use Rattle.lowered_names.proofs.EntryWords.{AreProper, entries_proper}
+use Rattle.model_builder.proofs.EntryWords.{AreProper, entries_proper}
+use Rattle.model_builder.proofs.NamedFile.{all_apart, file_named}
 use Rattle.model_builder.proofs.DistinctNames.{names_distinct}
 
 -- ---- names that are there
@@ -281,6 +282,7 @@ own_of spec names d h =
       theirs = theirs (length names.entries) d r;
       graph = graph_of (length names.entries) d r;
       model = λ graph. record { graph = graph; names = are_names names.entries (entries_proper spec names h.own) (length names.entries) d r; declared = declared_right names d r };
+      apart = all_apart d.types.nodes d.types.names (file_named spec names h.own d h.told);
     }
 
 -- no fault of names is left

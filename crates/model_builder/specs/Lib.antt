@@ -2,6 +2,7 @@
 pub mod Naming
 pub mod Signatures
 pub mod Shown
+pub mod PartNames
 pub mod Faults
 pub mod Ascii
 pub mod inner

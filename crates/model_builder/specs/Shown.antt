@@ -9,7 +9,6 @@ use Rattle.lowered_operations.specs.declared.signature.Offered.{Offered}
 use Rattle.lowered_operations.specs.declared.signature.Signature.{Signature}
 use Rattle.lowered_operations.specs.Operations.{Defined}
 use Rattle.lowered_operations.specs.Definitions.{defined_by}
-use Rattle.lowered_names.specs.Named.{AreNamed}
 use Rattle.model_builder.specs.Naming.{names_of}
 use Rattle.model_builder.specs.Signatures.{exception_of, interfaces_from, operation_of}
 
@@ -32,8 +31,8 @@ pub record Shows (definitions : List Definition) (names : FileNames) (model : Pa
   pub told : defined_by names.entries definitions ≡ Ok lowered
   pub shows : IsModelOf names lowered model
 
--- the names of the parts of each node are those that the definitions declare
+-- the names of the parts of each node are those of what the definitions are lowered to
 pub record AreParts (definitions : List Definition) (names : FileNames) (nodes : List (List (List ℕ))) : Type 0 where
   pub lowered : Defined
   pub told : defined_by names.entries definitions ≡ Ok lowered
-  pub named : AreNamed definitions names lowered.types lowered.operations nodes
+  pub named : nodes ≡ lowered.types.names

@@ -7,22 +7,12 @@ ghost use Rattle.model_builder.specs.inner.Own.{IsLowered};
 ghost use Rattle.model_builder.specs.Shown.{AreParts, Shows};
 
 use crate::fault::ModelFault;
-use crate::model::model_of;
+use crate::model::{Built, built_of};
 use idl_tree::spec::Spec;
-use lowered_names::name_parts;
 use lowered_operations::{OperationTable, lower_file};
 use lowered_types::BuildFault;
-use part_names::PartNames;
 use scoped_names::Names;
 use std::alloc::Global;
-use type_model::Model;
-
-/// The model of a file, and the names of the parts of its nodes.
-#[derive(Drop)]
-pub struct Built {
-    pub model: Model,
-    pub parts: PartNames,
-}
 
 /// What the file is lowered to.
 fn lowered<'a>(
@@ -43,29 +33,11 @@ fn lowered<'a>(
 }
 
 /// The model of a file whose names are those that `bind` gave for it: its types with their names,
-/// its interfaces, operations and exceptions.
+/// its interfaces, operations and exceptions; and for each node the names of its parts.
 ///
 /// # Errors
 /// The first fault of the file's types in the order of reading, with its line; a type that holds
 /// itself and too long a path come last. Want of memory.
-pub fn build_model<'a>(
-    alloc: Global,
-    spec: &Spec<'a>,
-    names: &Names<'a>,
-) -> Result<Model, ModelFault>
-    requires { AreNames spec.now.definitions.items names.now }
-    ensures shows { IfOk result (Shows spec.now.definitions.items names.now) }
-    ensures refused { IfErr result (IsRefused spec.now.definitions.items names.now) }
-{
-    let table = lowered(alloc, spec, names)?;
-    let (types, operations, interfaces) = table.into_parts();
-    model_of(alloc, names, types, operations, interfaces)
-}
-
-/// The same, and for each node the names of its parts.
-///
-/// # Errors
-/// Those of `build_model`.
 pub fn build<'a>(alloc: Global, spec: &Spec<'a>, names: &Names<'a>) -> Result<Built, ModelFault>
     requires { AreNames spec.now.definitions.items names.now }
     ensures shows { IfOk result (λ built. Shows spec.now.definitions.items names.now built.model) }
@@ -74,7 +46,5 @@ pub fn build<'a>(alloc: Global, spec: &Spec<'a>, names: &Names<'a>) -> Result<Bu
 {
     let table = lowered(alloc, spec, names)?;
     let (types, operations, interfaces) = table.into_parts();
-    let parts = name_parts(alloc, names, &types, operations.as_slice(), spec)?;
-    let model = model_of(alloc, names, types, operations, interfaces)?;
-    Ok(Built { model, parts })
+    built_of(alloc, names, types, operations, interfaces)
 }

@@ -6,9 +6,11 @@ mod file;
 pub mod laws;
 mod model;
 mod naming;
+mod parts;
 mod paths;
 mod signatures;
 
 pub use fault::ModelFault;
-pub use file::{Built, build, build_model};
+pub use file::build;
 pub use lowered_types::{Answer, LabelWorth, TypeFault, TypeKind};
+pub use model::Built;

@@ -9,7 +9,7 @@ use crate::fault::ModelFault;
 use basic_types::BASIC_NODES;
 use lowered_types::{TypeFault, TypeTable};
 use std::alloc::Global;
-use type_graph::{Graph, GraphFault, GraphLimit};
+use type_graph::{Graph, GraphFault, GraphLimit, Node};
 use type_paths::{PathFault, find_path_fault};
 
 /// The most nodes of a path.
@@ -43,16 +43,16 @@ pub(crate) fn check_paths(alloc: Global, types: &TypeTable) -> Result<(), ModelF
     }
 }
 
-/// The graph of types that keep its rules.
+/// The graph of nodes that keep its rules.
 ///
 /// # Errors
 /// Want of memory.
-pub(crate) fn graph_of(alloc: Global, types: TypeTable) -> Result<Graph, ModelFault>
-    requires { IsGraph types.nodes }
-    ensures kept { IfOk result (λ graph. graph ≡ types.nodes) }
+pub(crate) fn graph_of(alloc: Global, nodes: Vec<Node>) -> Result<Graph, ModelFault>
+    requires { IsGraph nodes.items }
+    ensures kept { IfOk result (λ graph. graph ≡ nodes.items) }
     ensures memory { IfErr result (λ fault. fault ≡ NoMemory) }
 {
-    match Graph::from_nodes(alloc, types.into_nodes()) {
+    match Graph::from_nodes(alloc, nodes) {
         Ok(graph) => Ok(graph),
         Err(GraphFault::NoMemory) => Err(ModelFault::NoMemory),
         Err(_) => unreachable!(),

@@ -34,7 +34,7 @@ use Rattle.shape_laws.proofs.Apart.{apart}
 use Rattle.shape_laws.proofs.Labels.{switch_same, label_same}
 use Rattle.shape_laws.proofs.PartLists.{each_same}
 use Rattle.shape_laws.proofs.Starts.{leaf_same}
-use Rattle.shape_laws.proofs.TypeParts.{entry_same, const_type_same, simple_type_same, declarator_name, declarator_place, array_same, enum_same}
+use Rattle.shape_laws.proofs.TypeParts.{entry_same, const_type_same, simple_type_same, declarator_name, declarator_place, declarator_word, array_same, enum_same}
 
 -- ---- members
 
@@ -42,7 +42,7 @@ with_declarator_same : (es : List Entry) (scope number : ℕ) (m : WithMembers) 
     → with_declarator es scope number m a ≡ with_declarator es scope number m b
 with_declarator_same es scope number m a b h =
     λ i. array_same es scope (already m.lowered number) a b h i >> λ t.
-    member_added m.members t.number (declarator_place a b h i) >> λ ms. Ok (with_members_of t.lowered ms)
+    member_added m.members (declarator_word a b h i) t.number (declarator_place a b h i) >> λ ms. Ok (with_members_of t.lowered ms)
 
 with_declarators_same : (es : List Entry) (scope : ℕ) (t : Numbered) (ms : Members) (a b : Listed Declarator)
     → listed_shape declarator_shape a ≡ listed_shape declarator_shape b → with_declarators es scope t ms a ≡ with_declarators es scope t ms b
@@ -70,7 +70,7 @@ case_added_same : (es : List Entry) (scope : ℕ) (s : _) (c : Cases) (a b : Lis
     → (d e : Declarator) → declarator_shape d ≡ declarator_shape e → case_added es scope s c a t d ≡ case_added es scope s c b u e
 case_added_same es scope s c a b h t u p d e k =
     λ i. labels_same es scope s c.arms a b h i >> λ ls. p c.lowered i >> λ n. array_same es scope n d e k i >> λ x.
-    Ok (cases_of x.lowered (with_case c.arms x.number (declarator_place d e k i) ls))
+    Ok (cases_of x.lowered (with_case c.arms (declarator_word d e k i) x.number (declarator_place d e k i) ls))
 
 -- ---- types
 

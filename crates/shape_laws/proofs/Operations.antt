@@ -24,13 +24,14 @@ use Rattle.lowered_types.specs.declared.place.Place.TheVariants.{Called}
 use Rattle.lowered_types.specs.Lowered.{Lowered, place_of}
 use Rattle.lowered_operations.specs.declared.signature.Role.TheVariants as Roles
 use Rattle.lowered_operations.specs.Oneway.{parts_of, is_in, result_answer, param_answer, raises_answer, answer_of, answer_test, oneway_test}
-use Rattle.lowered_operations.specs.Frames.{carrying, nothing_carried, with_carried, with_param, result_carried, all_carried}
+use Rattle.lowered_operations.specs.Frames.{carrying, nothing_carried, with_carried, with_param, result_carried, result_name, all_carried}
 use Rattle.lowered_operations.specs.Operations.{Defined, exception_in, with_exception, raised, with_place, with_call, with_operation, operation, with_types, is_set, get_raises, set_raises, with_get, with_access, with_attribute, attribute_identifiers, attribute}
 use Rattle.tree_laws.specs.Shapes.{bool_shape, leaf_shape, optional_shape, list_shape, listed_shape, name_shape, names_shape}
 use Rattle.tree_laws.specs.TypeShapes.{param_type_shape}
 use Rattle.tree_laws.specs.DefinitionShapes.{attributes_shape, attribute_shape, direction_shape, param_shape, operation_shape}
 use Rattle.shape_laws.proofs.Apart.{apart}
 use Rattle.shape_laws.proofs.PartLists.{each_same, parts_of_shape}
+use Rattle.shape_laws.proofs.NameWords.{word_same}
 use Rattle.shape_laws.proofs.Starts.{leaf_same}
 use Rattle.shape_laws.proofs.TypeParts.{entry_same, entry_found_same, param_type_same}
 
@@ -114,7 +115,7 @@ with_param_same es scope c a b h =
     let directions : direction_shape a.direction ≡ direction_shape b.direction = cc in
     let names : leaf_shape a.identifier ≡ leaf_shape b.identifier = cc in
     λ i. param_type_same es c.types scope a.param_type b.param_type types i >> λ t.
-    with_carried c.carried (direction_same a.direction b.direction directions i) t.number (leaf_same a.identifier b.identifier names i) >> λ more.
+    with_carried c.carried (word_same a.identifier b.identifier names i) (direction_same a.direction b.direction directions i) t.number (leaf_same a.identifier b.identifier names i) >> λ more.
     Ok (carrying t.lowered more)
 
 result_carried_same : (es : List Entry) (w : Lowered) (scope : ℕ) (at to : At) → at ≡ to → (a b : Option ParamType)
@@ -122,7 +123,7 @@ result_carried_same : (es : List Entry) (w : Lowered) (scope : ℕ) (at to : At)
 result_carried_same es w scope at to p None None h = refl
 result_carried_same es w scope at to p (Some a) (Some b) h =
     let types : param_type_shape a ≡ param_type_shape b = cc in
-    λ i. param_type_same es w scope a b types i >> λ t. with_carried nothing_carried Out t.number (p i) >> λ c. Ok (carrying t.lowered c)
+    λ i. param_type_same es w scope a b types i >> λ t. with_carried nothing_carried result_name Out t.number (p i) >> λ c. Ok (carrying t.lowered c)
 result_carried_same es w scope at to p a b h = absurd cc
 
 carried_same : (es : List Entry) (w : Lowered) (scope : ℕ) (a b : Operation) → operation_shape a ≡ operation_shape b
@@ -195,7 +196,7 @@ with_attribute_same es scope number a b h d l m k =
     λ i. raised_same es d.types scope (get_raises a) (get_raises b) (get_raises_shape a b h) i >> λ get.
     raised_same es d.types scope (set_raises a) (set_raises b) (set_raises_shape a b h) i >> λ set.
     entry_same es scope l m k i >> λ e. with_get d number get e (at i) >> λ got.
-    with_access got number (is_set_same a b h i) set e (at i)
+    with_access got (word_same l m k i) number (is_set_same a b h i) set e (at i)
 
 pub attribute_same : (es : List Entry) (scope : ℕ) (d : Defined) (a b : Attribute) → attribute_shape a ≡ attribute_shape b
     → attribute es scope d a ≡ attribute es scope d b

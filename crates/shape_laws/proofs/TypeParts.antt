@@ -16,6 +16,7 @@ use Rattle.idl_tree.specs.Lists.{parts}
 use Rattle.type_graph.specs.declared.fault.GraphLimit.TheVariants.{Enumerators, Bound as BoundLimit, Size}
 use Rattle.type_graph.specs.declared.node.Node.TheVariants.{Text, Seq, Enum}
 use Rattle.name_table.specs.Entry.{Entry, named}
+use Rattle.name_table.specs.Search.{word}
 use Rattle.scoped_names.specs.Reading.{◌>>◌}
 use Rattle.lowered_types.specs.Faults.{at_most, max_bound, max_enumerators, max_size, of_names, or_other}
 use Rattle.lowered_types.specs.Lowered.{Lowered, Numbered, already, added_at, named_type, type_of}
@@ -24,7 +25,7 @@ use Rattle.tree_laws.specs.Shapes.{leaf_shape, optional_shape, list_shape, name_
 use Rattle.tree_laws.specs.TypeShapes.{const_type_shape, param_type_shape, simple_type_shape, declarator_shape, enum_shape}
 use Rattle.shape_laws.proofs.Apart.{apart}
 use Rattle.shape_laws.proofs.NameTests.{integer_same, resolved_same, size_same}
-use Rattle.shape_laws.proofs.NameWords.{length_same, word_same}
+use Rattle.shape_laws.proofs.NameWords.{length_same, map_same, word_same}
 use Rattle.shape_laws.proofs.Starts.{leaf_same, expr_at}
 
 -- ---- what names and expressions say
@@ -110,6 +111,9 @@ declarator_sizes : (a b : Declarator) → declarator_shape a ≡ declarator_shap
     → list_shape const_expr_shape a.sizes.items ≡ list_shape const_expr_shape b.sizes.items
 declarator_sizes a b h = cc
 
+pub declarator_word : (a b : Declarator) → declarator_shape a ≡ declarator_shape b → word a.identifier ≡ word b.identifier
+declarator_word a b h = word_same a.identifier b.identifier (declarator_name a b h)
+
 pub declarator_place : (a b : Declarator) → declarator_shape a ≡ declarator_shape b → declarator_at a ≡ declarator_at b
 declarator_place a b h = leaf_same a.identifier b.identifier (declarator_name a b h)
 
@@ -130,5 +134,6 @@ enum_same es w scope a b h =
     let name = enum_name a b h in
     let at = leaf_same a.identifier b.identifier name in
     let count = length_same leaf_shape (parts a.enumerators.value) (parts b.enumerators.value) (enumerators_shape a b h) in
+    let words = map_same leaf_shape word word_same (parts a.enumerators.value) (parts b.enumerators.value) (enumerators_shape a b h) in
     λ i. entry_same es scope a.identifier b.identifier name i >> λ entry.
-    at_most max_enumerators Enumerators (at i) (count i) >> λ n. named_type w entry (Enum n) (at i)
+    at_most max_enumerators Enumerators (at i) (count i) >> λ n. named_type w entry (Enum n) (words i) (at i)

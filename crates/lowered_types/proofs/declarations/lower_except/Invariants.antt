@@ -1,4 +1,4 @@
-use Rattle.std.proofs.Common.{◌≡◌, ◌≤◌, ◌+◌, drop, length}
+use Rattle.std.proofs.Common.{◌≡◌, ◌≤◌, drop, length}
 use Rattle.lowered_types.specs.Faults.{each}
 use Rattle.lowered_types.specs.Types.{with_members_of, with_member}
 use Rattle.lowered_types.proofs.declarations.lower_except.Given as goal

@@ -4,8 +4,8 @@ use Rattle.model_builder.specs.Shown.{defined}
 use Rattle.model_builder.proofs.RightModel.{own_of}
 use Rattle.model_builder.proofs.file.build.Goals as goal
 
-pub model_of-requires : goal.model_of-requires
-model_of-requires c =
+pub built_of-requires : goal.built_of-requires
+built_of-requires c =
     let d = c.in_ok-table.table in
     let parts = c.into_parts-types.result in
     let given = c.into_parts-types.ensures in

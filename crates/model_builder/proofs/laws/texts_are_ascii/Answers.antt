@@ -1,8 +1,8 @@
 use Rattle.std.proofs.Common.{subst, sym}
 use Rattle.model_builder.specs.Ascii.{HasAsciiTexts}
 use Rattle.model_builder.proofs.AsciiModel.{model_ascii}
-use Rattle.lowered_names.proofs.AsciiNames.{says_ascii}
-use Rattle.lowered_names.proofs.EntryWords.{entries_proper}
+use Rattle.model_builder.proofs.AsciiNames.{says_ascii}
+use Rattle.model_builder.proofs.EntryWords.{entries_proper}
 use Rattle.model_builder.proofs.laws.texts_are_ascii.Goals as goal
 
 pub returns : goal.returns
