@@ -5,7 +5,7 @@ use Rattle.std.specs.String.{string_bytes}
 use Rattle.idl_compiler.specs.Compiled.{IsCompiled}
 use Rattle.position_checker.specs.Acceptance.{IsRight}
 use Rattle.idl_compiler.specs.declared.choice.Settled.{Settled}
-use Rattle.table_commands.specs.Lines.{accepted}
+use Rattle.position_checker.specs.Summary.{accepted}
 use Rattle.table_file.specs.TableSpelling.{Spells}
 use Rattle.idl_compiler.specs.declared.file.CompiledFile.{CompiledFile}
 use Rattle.idl_compiler.specs.declared.refusal.CompileRefusal.{CompileRefusal}

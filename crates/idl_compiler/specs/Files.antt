@@ -11,7 +11,7 @@ use Rattle.idl_compiler.specs.declared.choice.Settled.{Settled}
 use Rattle.idl_compiler.specs.declared.steps.NamedTable.{NamedTable}
 use Rattle.table_file.specs.Table.{TableParts}
 use Rattle.table_file.specs.TableSpelling.{Spells}
-use Rattle.table_commands.specs.Lines.{accepted}
+use Rattle.position_checker.specs.Summary.{accepted}
 use Rattle.idl_compiler.specs.declared.file.CompiledFile.{CompiledFile}
 use Rattle.idl_compiler.specs.declared.refusal.CompileRefusal.{CompileRefusal}
 use Rattle.idl_compiler.specs.declared.refusal.CompileRefusal.TheVariants.{Fault, TooLong, NoMemory}

@@ -2,20 +2,19 @@
 
 ghost use Rattle.std.specs.Prelude.{◌≡◌, ◌≤◌, length, IfErr, IfOk};
 ghost use Rattle.std.specs.String.{string_bytes};
-ghost use Rattle.table_commands.specs.Lines.{accepted};
 ghost use Rattle.idl_compiler.specs.Files.{IsCompiledFile, IsNamedText, IsRefusedFile, IsRefusedSource, RefusesTable};
 ghost use Rattle.position_checker.specs.Acceptance.{IsRight};
+ghost use Rattle.position_checker.specs.Summary.{accepted};
 ghost use Rattle.table_file.specs.TableSpelling.{Spells};
 
 use crate::choice::Settled;
 use crate::fault::CompileFault;
-use crate::refusal::{CompileRefusal, told, unwritten};
+use crate::refusal::{CompileRefusal, told};
 use crate::steps::{NamedTable, compile, compile_named};
 use idl_lexer::LexFault;
-use position_checker::Accepted;
+use position_checker::{accepted_line, file_octets};
 use std::alloc::Global;
 use std::str;
-use table_commands::{accepted_line, upgraded};
 
 /// The table file of an IDL file, and what is told of it.
 #[derive(Drop)]
@@ -28,19 +27,6 @@ pub struct CompiledFile {
     pub is_planned: bool,
 }
 
-/// The octets of an accepted table's file.
-fn octets_of(alloc: Global, table: &Accepted) -> Result<Vec<u8>, CompileRefusal>
-    ensures spelled { IfOk result (λ octets. Spells table.now octets.items) }
-    ensures right { IsRight table.now }
-    ensures within { IfOk result (λ octets. length octets.items ≤ 16777216) }
-    ensures refused { IfErr result (RefusesTable table.now) }
-{
-    match upgraded(alloc, table) {
-        Ok(octets) => Ok(octets),
-        Err(refusal) => Err(unwritten(&refusal)),
-    }
-}
-
 fn file_of(alloc: Global, settled: &Settled) -> Result<CompiledFile, CompileRefusal>
     ensures spelled { IfOk result (λ file. Spells settled.now.table file.octets.items) }
     ensures within { IfOk result (λ file. length file.octets.items ≤ 16777216) }
@@ -49,7 +35,7 @@ fn file_of(alloc: Global, settled: &Settled) -> Result<CompiledFile, CompileRefu
     ensures planned { IfOk result (λ file. file.is_planned ≡ settled.now.is_planned) }
     ensures refused { IfErr result (RefusesTable settled.now.table) }
 {
-    let octets = octets_of(alloc, &settled.table)?;
+    let octets = file_octets(alloc, &settled.table)?;
     let line = accepted_line(alloc, &settled.table)?;
     Ok(CompiledFile {
         octets,

@@ -2,13 +2,13 @@
 
 ghost use Rattle.std.specs.Prelude.{◌≡◌};
 ghost use Rattle.table_file.specs.Table.{TableParts};
-ghost use Rattle.table_commands.specs.Files.{RefusesTable as RefusesTableFile};
+ghost use Rattle.position_checker.specs.File.{HasNoFile};
 ghost use Rattle.idl_compiler.specs.Files.{IsTold, RefusesTable};
 ghost use Rattle.idl_compiler.specs.declared.refusal.CompileRefusal.TheVariants.{NoMemory};
 
+use position_checker::FileFault;
 use std::alloc::{AllocError, Global};
 use std::fmt::Display;
-use table_commands::Refusal as TableRefusal;
 use thiserror::Error;
 
 /// A refusal has as its text the line that the program puts behind its name.
@@ -32,6 +32,18 @@ impl From<AllocError> for CompileRefusal {
     }
 }
 
+/// Of a table that no octets spell there is too much of something.
+impl From<FileFault> for CompileRefusal {
+    ghost from_gives = { λ fault refusal. (table : TableParts) → HasNoFile table fault → RefusesTable table refusal };
+
+    fn from(fault: FileFault) -> CompileRefusal {
+        match fault {
+            FileFault::Unspelled(_) | FileFault::TooLong => CompileRefusal::TooLong,
+            FileFault::NoMemory => CompileRefusal::NoMemory,
+        }
+    }
+}
+
 /// The text of a fault is kept in place of the fault, which may be large.
 pub(crate) fn told<F: Display>(alloc: Global, fault: &F) -> CompileRefusal
     ensures { IsTold result }
@@ -39,15 +51,5 @@ pub(crate) fn told<F: Display>(alloc: Global, fault: &F) -> CompileRefusal
     match format!(in alloc; "{fault}") {
         Ok(text) => CompileRefusal::Fault { text },
         Err(_) => CompileRefusal::NoMemory,
-    }
-}
-
-/// Why the table has no file. Of a table that no octets spell there is too much of something.
-pub(crate) fn unwritten(refusal: &TableRefusal<'_>) -> CompileRefusal
-    ensures { (table : TableParts) → RefusesTableFile table refusal.now → RefusesTable table result }
-{
-    match refusal {
-        TableRefusal::NoMemory => CompileRefusal::NoMemory,
-        _ => CompileRefusal::TooLong,
     }
 }

@@ -2,7 +2,7 @@
 use Rattle.std.specs.Prelude.{◌≡◌, ◌⊎◌, ℕ, List}
 use Rattle.command_words.specs.Ask.{ReferenceAsk}
 use Rattle.table_file.specs.Table.{TableParts}
-use Rattle.table_commands.specs.Lines.{accepted}
+use Rattle.position_checker.specs.Summary.{accepted}
 use Rattle.table_commands.specs.Named.{Passing}
 use Rattle.table_commands.specs.NoReference.{IsReferenceRefusal}
 use Rattle.table_commands.specs.References.{IsReferenceLine}

@@ -9,8 +9,9 @@ ghost use Rattle.named_tables.specs.Loaded.{IsNotLoaded};
 use crate::fault::NamedFault;
 use crate::loaded::{Loaded, load};
 use command_words::ReferenceTask;
+use position_checker::accepted_line;
 use std::alloc::{AllocError, Global};
-use table_commands::{WholeFiles, accepted_line, listing, reference_line};
+use table_commands::{WholeFiles, listing, reference_line};
 use text_commands::outlines;
 
 /// The line of a reference.

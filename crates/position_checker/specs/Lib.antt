@@ -1,3 +1,5 @@
 pub mod Acceptance
 pub mod Verdict
+pub mod File
+pub mod Summary
 pub mod inner

@@ -1,7 +1,7 @@
 -- What is told of the table of a name.
 use Rattle.std.proofs.Common.{◌≡◌, ◌≢◌, ◌⊎◌, inr, ℕ, List, codes, Result, Ok, Err, IfOk, IfErr, OnOk}
 use Rattle.table_file.specs.Table.{TableParts}
-use Rattle.table_commands.specs.Lines.{accepted}
+use Rattle.position_checker.specs.Summary.{accepted}
 use Rattle.table_commands.specs.Named.{Passing, IsNoTable, IsNoUpgrade, IsTableOf, IsUnwritten, IsUpgraded, IsWritten}
 use Rattle.table_commands.specs.Files.{RefusesFile, RefusesTable}
 use Rattle.table_commands.specs.Refusal.{IsOfTable}

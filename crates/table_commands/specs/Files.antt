@@ -1,8 +1,9 @@
 -- Why octets are refused as a table file, and why a table has none.
-use Rattle.std.specs.Prelude.{ℕ, ◌<◌, ◌⊎◌, List, length}
+use Rattle.std.specs.Prelude.{ℕ, ◌⊎◌, List}
 use Rattle.table_file.specs.Table.{TableParts, IsTable}
 use Rattle.table_file.specs.TableSpelling.{Spells, SpellsOld}
 use Rattle.position_checker.specs.Acceptance.{IsLone}
+use Rattle.position_checker.specs.File.{SpellsLong}
 use Rattle.table_commands.specs.declared.refusal.Refusal.{Refusal}
 use Rattle.table_commands.specs.declared.refusal.Refusal.TheVariants.{NoTable, NotRight, TooLong, NoMemory}
 
@@ -19,12 +20,6 @@ RefusesFile octets (NoTable fault) =
     (table : TableParts) → IsTable table → Spells table octets ⊎ SpellsOld table octets → ⊥
 RefusesFile octets (NotRight fault) = SpellsAnother octets
 RefusesFile octets refusal = ⊥
-
--- the table is spelled by more octets than a file may have
-pub record SpellsLong (table : TableParts) : Type 0 where
-  pub octets : List ℕ
-  pub spelled : Spells table octets
-  pub long : 16777216 < length octets
 
 -- the refusal of a table: want of memory, or no octets spell it, or too many
 abbrev pub RefusesTable : TableParts → Refusal → Type 0

@@ -1,18 +1,13 @@
 -- The lines that commands print of a table.
-use Rattle.std.specs.Prelude.{◌≡◌, ℕ, ◌+◌, ◌≤◌, List, [], ◌∷◌, ◌++◌, length, take, codes, Ok}
+use Rattle.std.specs.Prelude.{◌≡◌, ℕ, ◌≤◌, List, [], ◌∷◌, ◌++◌, length, take, Ok}
 use Rattle.std.specs.Fmt.{decimal}
 use Rattle.hex.specs.Hex.{decode_of, encode_lower}
 use Rattle.type_graph.specs.declared.node.Node.{Node}
 use Rattle.type_graph.specs.declared.width.Order.{Order}
 use Rattle.type_graph.specs.Words.{reading, writing}
 use Rattle.type_graph.specs.Encoding.{Means}
-use Rattle.table_file.specs.Table.{TableParts}
 use Rattle.table_commands.specs.declared.values.Way.{Way}
 use Rattle.table_commands.specs.declared.values.Way.TheVariants.{Encode, Decode}
-
--- how many routines its two programs have
-abbrev pub accepted : TableParts → List ℕ
-accepted table = codes "accepted " ++ decimal (length table.first + length table.second) ++ 10 ∷ []
 
 -- the digits of the CDR octets of the value that the tape is
 pub record PrintsOctets (graph : List Node) (order : Order) (node pos : ℕ) (tape line : List ℕ) : Type 0 where

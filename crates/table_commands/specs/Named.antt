@@ -2,7 +2,7 @@
 use Rattle.std.specs.Prelude.{◌≡◌, ◌≢◌, ◌⊎◌, ℕ, List, codes}
 use Rattle.position_checker.specs.Acceptance.{IsRight}
 use Rattle.table_commands.specs.Files.{RefusesFile, RefusesTable}
-use Rattle.table_commands.specs.Lines.{accepted}
+use Rattle.position_checker.specs.Summary.{accepted}
 use Rattle.table_commands.specs.declared.refusal.Refusal.{Refusal}
 use Rattle.table_commands.specs.declared.refusal.Refusal.TheVariants.{Unread, Unwritten, NoTable, NotRight, TooLong, NoMemory}
 use Rattle.table_commands.specs.Sample.{sample_table}

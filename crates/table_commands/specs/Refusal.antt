@@ -4,12 +4,14 @@ use Rattle.run_steps.specs.declared.fault.RunFault.{RunFault}
 use Rattle.run_steps.specs.declared.fault.RunFault.TheVariants as runs
 use Rattle.marshal_program.specs.declared.fault.TableFault.{TableFault}
 use Rattle.marshal_program.specs.declared.fault.TableFault.TheVariants as files
+use Rattle.position_checker.specs.declared.file.FileFault.{FileFault}
+use Rattle.position_checker.specs.declared.file.FileFault.TheVariants as written
 use Rattle.routine_checker.specs.declared.fault.CheckFault.{CheckFault}
 use Rattle.routine_checker.specs.declared.fault.CheckFault.TheVariants as checks
 use Rattle.object_references.specs.declared.fault.ReferenceFault.{ReferenceFault}
 use Rattle.object_references.specs.declared.fault.ReferenceFault.TheVariants as references
 use Rattle.table_commands.specs.declared.refusal.Refusal.{Refusal}
-use Rattle.table_commands.specs.declared.refusal.Refusal.TheVariants.{NoTable, NotRight, Refused, NoReference, NoMemory}
+use Rattle.table_commands.specs.declared.refusal.Refusal.TheVariants.{NoTable, NotRight, Refused, NoReference, NoMemory, TooLong}
 
 abbrev pub refusal_of_run : RunFault → Refusal
 refusal_of_run runs.NoMemory = NoMemory
@@ -18,6 +20,11 @@ refusal_of_run fault = Refused fault
 abbrev pub refusal_of_file : TableFault → Refusal
 refusal_of_file files.NoMemory = NoMemory
 refusal_of_file fault = NoTable fault
+
+abbrev pub refusal_of_table : FileFault → Refusal
+refusal_of_table (written.Unspelled fault) = NoTable fault
+refusal_of_table written.TooLong = TooLong
+refusal_of_table written.NoMemory = NoMemory
 
 abbrev pub refusal_of_check : CheckFault → Refusal
 refusal_of_check checks.NoMemory = NoMemory

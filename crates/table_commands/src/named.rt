@@ -3,17 +3,16 @@
 ghost use Rattle.std.specs.Prelude.{◌≡◌, ◌≤◌, ◌⊎◌, length, IfOk, IfErr, OnOk};
 ghost use Rattle.std.specs.String.{string_bytes};
 ghost use Rattle.table_commands.specs.Files.{RefusesTable};
-ghost use Rattle.table_commands.specs.Lines.{accepted as accepted_routines};
+ghost use Rattle.position_checker.specs.Summary.{accepted as accepted_routines};
 ghost use Rattle.table_commands.specs.Named.{IsNoTable, IsNoUpgrade, IsTableOf, IsUnread, IsUnwritten, IsUpgraded, IsWritten};
 
 use crate::builtin::sample;
 use crate::refusal::Refusal;
-use crate::source::{MAX_LEN, accepted, upgraded};
-use crate::summary::accepted_line;
+use crate::source::{accepted, upgraded};
 use crate::whole_files::WholeFiles;
 use crate::whole_read::ReadFault;
 use crate::whole_write::WriteFault;
-use position_checker::Accepted;
+use position_checker::{Accepted, MAX_LEN, accepted_line};
 
 /// The name by which the commands know the sample table.
 pub const SAMPLE: &str = "builtin";

@@ -2,12 +2,12 @@
 
 ghost use Rattle.std.specs.Prelude.{◌≡◌};
 ghost use Rattle.table_commands.specs.declared.refusal.Refusal.TheVariants.{NoMemory};
-ghost use Rattle.table_commands.specs.Refusal.{refusal_of_check, refusal_of_file, refusal_of_reference, refusal_of_run};
+ghost use Rattle.table_commands.specs.Refusal.{refusal_of_check, refusal_of_file, refusal_of_reference, refusal_of_run, refusal_of_table};
 
 use crate::escaped::Escaped;
 use marshal_program::TableFault;
 use object_references::ReferenceFault;
-use position_checker::CheckFault;
+use position_checker::{CheckFault, FileFault};
 use program_runner::RunFault;
 use std::alloc::AllocError;
 use thiserror::Error;
@@ -76,6 +76,18 @@ impl<'a> From<TableFault> for Refusal<'a> {
         match fault {
             TableFault::NoMemory => Refusal::NoMemory,
             fault => Refusal::NoTable(fault),
+        }
+    }
+}
+
+impl<'a> From<FileFault> for Refusal<'a> {
+    ghost from_gives = { λ fault refusal. refusal ≡ refusal_of_table fault };
+
+    fn from(fault: FileFault) -> Refusal<'a> {
+        match fault {
+            FileFault::Unspelled(fault) => Refusal::NoTable(fault),
+            FileFault::TooLong => Refusal::TooLong,
+            FileFault::NoMemory => Refusal::NoMemory,
         }
     }
 }

@@ -7,12 +7,9 @@ ghost use Rattle.table_commands.specs.Files.{RefusesFile, RefusesTable};
 ghost use Rattle.table_commands.specs.Refusal.{IsOfTable};
 
 use crate::refusal::Refusal;
-use position_checker::{Accepted, check};
+use position_checker::{Accepted, check, file_octets};
 use std::alloc::Global;
-use table_file::{decode_table, encode_table};
-
-/// So many octets a table file has at most.
-pub const MAX_LEN: u32 = 16_777_216;
+use table_file::decode_table;
 
 /// The table of these octets, of version 1 or 2, which was found right.
 ///
@@ -45,8 +42,7 @@ pub fn upgraded<'a>(alloc: Global, table: &Accepted) -> Result<Vec<u8>, Refusal<
     ensures within { IfOk result (λ octets. length octets.items ≤ 16777216) }
     ensures refused { IfErr result (RefusesTable table.now) }
 {
-    match encode_table(alloc, table.table()) {
-        Ok(octets) if octets.len() > MAX_LEN as usize => Err(Refusal::TooLong),
+    match file_octets(alloc, table) {
         Ok(octets) => Ok(octets),
         Err(fault) => Err(Refusal::from(fault)),
     }

@@ -2,9 +2,9 @@
 
 ghost use Rattle.std.specs.Prelude.{◌≡◌, IfOk};
 ghost use Rattle.std.specs.String.{string_bytes};
-ghost use Rattle.table_commands.specs.Lines.{accepted};
+ghost use Rattle.position_checker.specs.Summary.{accepted};
 
-use position_checker::Accepted;
+use crate::accepted::Accepted;
 use std::alloc::{AllocError, Global};
 use table_file::Which;
 
