@@ -10,7 +10,7 @@ ghost use Rattle.table_file.specs.TableSpelling.{Spells};
 use crate::choice::Settled;
 use crate::fault::CompileFault;
 use crate::refusal::{CompileRefusal, told};
-use crate::steps::{NamedTable, compile, compile_named};
+use crate::steps::{NamedTable, compile};
 use idl_lexer::LexFault;
 use position_checker::{accepted_line, file_octets};
 use std::alloc::Global;
@@ -58,7 +58,7 @@ pub fn compile_file(alloc: Global, source: &[u8]) -> Result<CompiledFile, Compil
         return Err(told(alloc, &LexFault::BadChar { line: 0 }));
     };
     match compile(alloc, text) {
-        Ok(settled) => file_of(alloc, &settled),
+        Ok(whole) => file_of(alloc, &whole.settled),
         Err(CompileFault::NoMemory) => Err(CompileRefusal::NoMemory),
         Err(fault) => Err(told(alloc, &fault)),
     }
@@ -76,8 +76,8 @@ pub fn compile_source(alloc: Global, source: &[u8]) -> Result<NamedTable, Compil
     let Ok(text) = str::from_utf8(source) else {
         return Err(told(alloc, &LexFault::BadChar { line: 0 }));
     };
-    match compile_named(alloc, text) {
-        Ok(named) => Ok(named),
+    match compile(alloc, text) {
+        Ok(whole) => Ok(whole),
         Err(CompileFault::NoMemory) => Err(CompileRefusal::NoMemory),
         Err(fault) => Err(told(alloc, &fault)),
     }

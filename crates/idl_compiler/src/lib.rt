@@ -13,4 +13,4 @@ pub use choice::{Settled, settle};
 pub use fault::CompileFault;
 pub use file::{CompiledFile, compile_file, compile_source};
 pub use refusal::CompileRefusal;
-pub use steps::{NamedTable, compile, compile_named};
+pub use steps::{NamedTable, compile};

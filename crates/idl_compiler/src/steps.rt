@@ -1,9 +1,9 @@
 //! The steps from a text to its table.
 
 ghost use Rattle.std.specs.Prelude.{◌≡◌, IfErr, IfOk};
-ghost use Rattle.idl_compiler.specs.Compiled.{ArePartsOf, IsCompiled, IsModelOf, IsNamedTable, IsTableOf};
+ghost use Rattle.idl_compiler.specs.Compiled.{ArePartsOf, IsModelOf, IsNamedTable, IsTableOf};
 ghost use Rattle.idl_compiler.specs.Refused.{HasNoTableBut, IsFaultOf, IsRefused};
-ghost use Rattle.idl_compiler.specs.inner.Modelled.{IsBuilt, IsModelled};
+ghost use Rattle.idl_compiler.specs.inner.Modelled.{IsBuilt};
 ghost use Rattle.idl_compiler.specs.declared.fault.CompileFault.TheVariants.{NoMemory};
 
 use crate::choice::{Settled, settle};
@@ -13,7 +13,7 @@ use generator::plain;
 use idl_lexer::lex;
 use idl_parser::parse;
 use idl_tree::spec::Spec;
-use model_builder::{Built, build, build_model};
+use model_builder::{Built, build};
 use optimiser::planned;
 use part_names::PartNames;
 use scoped_names::bind;
@@ -27,34 +27,10 @@ pub struct NamedTable {
     pub names: PartNames,
 }
 
-/// What has a model. A tree is one. (A borrow of a tree that a function has itself costs the borrow
-/// checker more steps than it may take; one of a value of any type doesn't.)
+/// What has a model whose types have parts with names. A tree is one. (A borrow of a tree that a
+/// function has itself costs the borrow checker more steps than it may take; one of a value of any
+/// type doesn't.)
 trait HasModel {
-    ghost use Rattle.type_model.specs.ModelRules.{Parts};
-    ghost use Rattle.idl_compiler.specs.declared.fault.CompileFault.{CompileFault};
-
-    ghost shows: { Self → Parts → Type 0 };
-
-    ghost lacks: { Self → CompileFault → Type 0 };
-
-    fn model(&self, alloc: Global) -> Result<Model, CompileFault>
-        ensures shown { IfOk result (λ model. shows self.now model) }
-        ensures faults { IfErr result (lacks self.now) };
-}
-
-impl<'a> HasModel for Spec<'a> {
-    ghost shows = { λ spec. IsModelOf spec.definitions.items };
-
-    ghost lacks = { λ spec. IsFaultOf spec.definitions.items };
-
-    fn model(&self, alloc: Global) -> Result<Model, CompileFault> {
-        let names = bind(alloc, self)?;
-        Ok(build_model(alloc, self, &names)?)
-    }
-}
-
-/// What has a model whose types have parts with names.
-trait HasParts {
     ghost use Rattle.std.specs.Prelude.{ℕ, List};
     ghost use Rattle.type_model.specs.ModelRules.{Parts};
     ghost use Rattle.idl_compiler.specs.declared.fault.CompileFault.{CompileFault};
@@ -71,7 +47,7 @@ trait HasParts {
         ensures faults { IfErr result (lacks self.now) };
 }
 
-impl<'a> HasParts for Spec<'a> {
+impl<'a> HasModel for Spec<'a> {
     ghost shows = { λ spec. IsModelOf spec.definitions.items };
 
     ghost names = { λ spec. ArePartsOf spec.definitions.items };
@@ -95,16 +71,8 @@ fn table_of_model(alloc: Global, model: Model) -> Result<Settled, CompileFault>
     Ok(settle(alloc, model, first, second)?)
 }
 
-/// The model of what has one, which is let go.
-fn model_of<T: HasModel + Drop>(alloc: Global, whole: T) -> Result<Model, CompileFault>
-    ensures shown { IfOk result (λ model. T.shows whole model) }
-    ensures faults { IfErr result (T.lacks whole) }
-{
-    whole.model(alloc)
-}
-
-/// The same, with the names of the parts of its types.
-fn built_of<T: HasParts + Drop>(alloc: Global, whole: T) -> Result<Built, CompileFault>
+/// The model of what has one, which is let go, and the names of the parts of its types.
+fn built_of<T: HasModel + Drop>(alloc: Global, whole: T) -> Result<Built, CompileFault>
     ensures shown { IfOk result (λ built. T.shows whole built.model) }
     ensures named { IfOk result (λ built. T.names whole built.parts) }
     ensures faults { IfErr result (T.lacks whole) }
@@ -114,39 +82,20 @@ fn built_of<T: HasParts + Drop>(alloc: Global, whole: T) -> Result<Built, Compil
 
 // Tokens are let go before the model is made, and the tree before the table is.
 
-/// The model of a text, or the fault of the first step that refuses it.
-fn model_of_text(alloc: Global, source: &str) -> Result<Model, CompileFault>
-    ensures modelled { IfOk result (IsModelled source.now) }
-    ensures refused { IfErr result (IsRefused source.now) }
-{
-    let tokens = lex(alloc, source)?;
-    let spec = parse(alloc, &tokens)?;
-    drop(tokens);
-    model_of(alloc, spec)
-}
-
-/// The same, with the names of the parts of its types.
+/// The model of a text with the names of the parts of its types, or the fault of the first step that
+/// refuses it.
 fn built_of_text(alloc: Global, source: &str) -> Result<Built, CompileFault>
     ensures built { IfOk result (IsBuilt source.now) }
     ensures refused { IfErr result (IsRefused source.now) }
 {
     let tokens = lex(alloc, source)?;
-    let tree = parse(alloc, &tokens)?;
+    let spec = parse(alloc, &tokens)?;
     drop(tokens);
-    built_of(alloc, tree)
+    built_of(alloc, spec)
 }
 
 /// The table of a text.
-fn table_of_text(alloc: Global, source: &str) -> Result<Settled, CompileFault>
-    ensures compiled { IfOk result (IsCompiled source.now) }
-    ensures refused { IfErr result (IsRefused source.now) }
-{
-    let model = model_of_text(alloc, source)?;
-    table_of_model(alloc, model)
-}
-
-/// The same, with the names of the parts of its types.
-fn named_table_of_text(alloc: Global, source: &str) -> Result<NamedTable, CompileFault>
+fn table_of_text(alloc: Global, source: &str) -> Result<NamedTable, CompileFault>
     ensures compiled { IfOk result (IsNamedTable source.now) }
     ensures refused { IfErr result (IsRefused source.now) }
 {
@@ -163,23 +112,10 @@ fn named_table_of_text(alloc: Global, source: &str) -> Result<NamedTable, Compil
 /// programs that marshal its values; with the names of members, enumerators, parameters and results.
 ///
 /// # Errors
-/// Those of `compile`.
-pub fn compile_named(alloc: Global, source: &str) -> Result<NamedTable, CompileFault>
-    ensures compiled { IfOk result (IsNamedTable source.now) }
-    ensures refused { IfErr result (IsRefused source.now) }
-    ensures none { IfErr result (HasNoTableBut source.now) }
-{
-    refused_has_no_table();
-    named_table_of_text(alloc, source)
-}
-
-/// The table of an IDL file, without the names of the parts of its types.
-///
-/// # Errors
 /// The first fault with its line, tokens before grammar, grammar before names, names before types;
 /// want of memory.
-pub fn compile(alloc: Global, source: &str) -> Result<Settled, CompileFault>
-    ensures compiled { IfOk result (IsCompiled source.now) }
+pub fn compile(alloc: Global, source: &str) -> Result<NamedTable, CompileFault>
+    ensures compiled { IfOk result (IsNamedTable source.now) }
     ensures refused { IfErr result (IsRefused source.now) }
     ensures none { IfErr result (HasNoTableBut source.now) }
 {

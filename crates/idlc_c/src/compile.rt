@@ -6,7 +6,7 @@ ghost use Rattle.idlc_c.specs.SourceAnswers.{IsIdlOf, RefusesSource};
 
 use crate::held::{Held, Loaded};
 use crate::source_fault::SourceFault;
-use idl_compiler::{CompileFault, compile_named};
+use idl_compiler::CompileFault;
 use std::alloc::Global;
 use std::str;
 
@@ -18,7 +18,7 @@ fn compiled(alloc: Global, source: &[u8]) -> Result<Loaded, SourceFault>
     let Ok(text) = str::from_utf8(source) else {
         return Err(SourceFault::NotText);
     };
-    match compile_named(alloc, text) {
+    match idl_compiler::compile(alloc, text) {
         Ok(whole) => Ok(Loaded {
             table: whole.settled.table,
             names: whole.names,

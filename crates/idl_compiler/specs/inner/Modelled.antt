@@ -1,17 +1,10 @@
 -- Texts whose model is made, and no table yet.
 use Rattle.std.specs.Prelude.{ℕ, List}
 use Rattle.idl_tree.specs.declared.definitions.Definition.{Definition}
-use Rattle.model_builder.specs.declared.file.Built.{Built}
-use Rattle.type_model.specs.ModelRules.{Parts}
+use Rattle.model_builder.specs.declared.model.Built.{Built}
 use Rattle.idl_compiler.specs.Compiled.{ArePartsOf, IsModelOf, IsTextOf}
 
--- the model is that of the definitions in the text
-pub record IsModelled (source : List ℕ) (model : Parts) : Type 0 where
-  pub definitions : List Definition
-  pub text : IsTextOf source definitions
-  pub shown : IsModelOf definitions model
-
--- the same, and the names of parts are theirs
+-- the model is that of the definitions in the text, and the names of parts are theirs
 pub record IsBuilt (source : List ℕ) (built : Built) : Type 0 where
   pub definitions : List Definition
   pub text : IsTextOf source definitions

@@ -1,7 +1,7 @@
 use Rattle.std.proofs.Common.{rules, subst}
-use Rattle.idl_compiler.specs.Compiled.{IsCompiled}
+use Rattle.idl_compiler.specs.Compiled.{IsNamedTable}
 use Rattle.idl_compiler.specs.Refused.{HasNoTableBut, IsRefused}
-use Rattle.idl_compiler.proofs.FileFacts.{compiled, no_text}
+use Rattle.idl_compiler.proofs.FileFacts.{compiled, no_text, without_names}
 use Rattle.idl_compiler.proofs.NoTable.{refused_file}
 use Rattle.idl_compiler.proofs.file.compile_file.Goals as goal
 
@@ -10,9 +10,9 @@ returns-in_default-clause-refused c = no_text c.args.source.now c.told.result c.
 
 pub returns-in-Ok-compile-clause-compiled : goal.returns-in-Ok-compile-clause-compiled
 returns-in-Ok-compile-clause-compiled c =
-    let settled = c.in-Ok-compile.settled in
-    compiled c.args.source.now settled c.file_of.result c.in-Ok.ensures.cases.1
-    (subst (λ text. IsCompiled text settled) c.in-Ok.ensures.cases.0 c.in-Ok-compile.ensures.compiled)
+    let whole = c.in-Ok-compile.whole in
+    compiled c.args.source.now whole.settled c.file_of.result c.in-Ok.ensures.cases.1
+    (without_names c.args.source.now whole (subst (λ text. IsNamedTable text whole) c.in-Ok.ensures.cases.0 c.in-Ok-compile.ensures.compiled))
     c.file_of.ensures.right c.file_of.ensures.spelled c.file_of.ensures.within c.file_of.ensures.line c.file_of.ensures.planned
 
 pub returns-in-Err : goal.returns-in-Err
