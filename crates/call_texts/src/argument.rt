@@ -6,12 +6,11 @@ ghost use Rattle.type_model.specs.Names.{IsNamed};
 ghost use Rattle.value_text.specs.Refusal.{wants_memory};
 ghost use Rattle.call_texts.specs.Bodies.{IsTapeOfText, SaysNone};
 
-use crate::parts::packed;
 use part_names::PartNames;
 use position_checker::Accepted;
 use std::alloc::Global;
 use type_graph::Graph;
-use value_text::{ReadFault, read};
+use value_text::{ReadFault, packed, read};
 
 fn tape_in(
     alloc: Global,

@@ -6,7 +6,6 @@ mod argument;
 mod body;
 mod disposition;
 mod outcome;
-mod parts;
 mod raised;
 
 pub use argument::argument_tape;

@@ -13,7 +13,6 @@ use giop_messages::Reply;
 use giop_types::{GiopTypes, ID_ARGUMENT, split_octets};
 use part_names::PartNames;
 use position_checker::Accepted;
-use program_runner::RunFault;
 use std::alloc::{AllocError, Global};
 
 /// The tape of the repository id with which a body begins.
@@ -26,18 +25,10 @@ fn id_tape(
     ensures none { IfOk result (λ o. IfNone o ((id : List ℕ)
         → BeginsWithId reply.now.order reply.now.body_at reply.now.octets.now id → ⊥)) }
 {
-    match types.read(
-        alloc,
-        ID_ARGUMENT,
-        reply.order,
-        reply.body_at as u64,
-        reply.octets,
-    ) {
-        Ok((tape, _)) => Ok(Some(tape)),
-        Err(fault) => match fault {
-            RunFault::NoMemory => Err(AllocError),
-            _ => Ok(None),
-        },
+    let place = reply.body_at as u64;
+    match types.find(alloc, ID_ARGUMENT, reply.order, place, reply.octets)? {
+        Some((tape, _)) => Ok(Some(tape)),
+        None => Ok(None),
     }
 }
 

@@ -23,7 +23,6 @@ mod marshal;
 mod messages;
 mod names;
 mod octets;
-mod parts;
 mod refusal;
 mod source_fault;
 mod source_place;

@@ -13,14 +13,13 @@ ghost use Rattle.idlc_c.specs.inner.Prints.{RefusesRun};
 
 use crate::held::Loaded;
 use crate::octets::put;
-use crate::parts::{packed, printed};
 use crate::refusal::Refusal;
 use idl_value::Value;
 use position_checker::Accepted;
 use std::alloc::Global;
 use std::str;
 use type_graph::Order;
-use value_text::{ReadFault, Refusal as Unsaid, TextPlace, Wanted, read};
+use value_text::{ReadFault, Refusal as Unsaid, TextPlace, Wanted, packed, printed, read};
 
 /// The refusal of what isn't UTF-8.
 fn not_utf8() -> Unsaid {

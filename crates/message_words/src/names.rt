@@ -6,8 +6,8 @@ ghost use Rattle.message_words.specs.Bodies.{HasNone, IsCalled};
 
 use crate::frames::Types;
 use giop::Request;
+use giop_types::find_value;
 use position_checker::Accepted;
-use program_runner::RunFault;
 use std::alloc::{AllocError, Global};
 use type_model::Model;
 
@@ -42,16 +42,10 @@ fn is_body_of(
         return Ok(false);
     };
     let place = request.body_at as u64;
-    match table.read(
-        alloc,
-        operation.request,
-        request.order,
-        place,
-        request.octets,
-    ) {
-        Ok((_, taken)) => Ok(taken == request.octets.len()),
-        Err(RunFault::NoMemory) => Err(AllocError),
-        Err(_) => Ok(false),
+    let node = operation.request;
+    match find_value(table, alloc, node, request.order, place, request.octets)? {
+        Some((_, taken)) => Ok(taken == request.octets.len()),
+        None => Ok(false),
     }
 }
 

@@ -2,16 +2,13 @@
 
 ghost use Rattle.std.specs.Prelude.{◌≡◌, ◌≢◌, ◌≤◌, false, length, IfOk};
 ghost use Rattle.giop_messages.specs.declared.head.MessageKind.TheVariants as kinds;
-ghost use Rattle.giop_messages.specs.Heads.{number_in};
 ghost use Rattle.giop_messages.specs.Messages.{IsWhole};
 ghost use Rattle.giop_messages.specs.Runs.{IsMessage};
 ghost use Rattle.message_words.specs.Said.{IsLocated, IsSaid};
 
-use byteorder::{BigEndian, ByteOrder, LittleEndian};
 use giop::{Giop, Message};
-use giop_messages::{HEAD_LEN, Head, MessageKind};
+use giop_messages::{HEAD_LEN, Head, MessageKind, number};
 use std::alloc::{AllocError, Global};
-use type_graph::Order;
 
 /// The answer to the question whether an object is here.
 #[derive(Clone, Copy, Debug, PartialEq, Eq)]
@@ -27,17 +24,6 @@ pub(crate) enum Said<'b> {
     Message(Message<'b>),
     Located(Located),
     Nothing,
-}
-
-/// The unsigned number of four octets at the front.
-fn number(order: Order, octets: &[u8]) -> u32
-    requires { 4 ≤ length octets.now }
-    ensures { result ≡ number_in order 4 octets.now }
-{
-    match order {
-        Order::Big => BigEndian::read_u32(octets),
-        Order::Little => LittleEndian::read_u32(octets),
-    }
 }
 
 /// A reply to a locate request: its header is two numbers.

@@ -1,51 +1,31 @@
 -- What is known of a value and of a refusal, put together.
-use Rattle.std.proofs.Common.{◌≡◌, ◌<◌, ◌≤◌, ◌∙◌, ap, sym, subst, append_assoc, ℕ, List, [], ◌∷◌, ◌++◌, All, Contains, length, map, take, IfOk, IfErr, IsErr, Result, Ok, Err}
+use Rattle.std.proofs.Common.{◌≡◌, ◌≤◌, ◌∙◌, ap, sym, subst, append_assoc, ℕ, List, [], ◌∷◌, ◌++◌, Contains, length, take, IfOk, IfErr, IsErr, Result, Ok, Err}
 use Rattle.std.specs.Bool.{OnFalse}
 use Rattle.std.specs.Fmt.{decimal}
-use Rattle.json.specs.Print.{print}
-use Rattle.escaped_json.specs.Escaped.{escaped}
-use Rattle.std.proofs.lemmas.List.Elements.{All-contains, All-map}
 use Rattle.hex.specs.Hex.{decode_of}
 use Rattle.type_graph.specs.declared.node.Node.{Node}
 use Rattle.type_graph.specs.declared.width.Order.{Order}
 use Rattle.type_graph.specs.Words.{reading}
-use Rattle.type_graph.specs.Value.{Tree, Fits, node_at, tape_of}
 use Rattle.type_graph.specs.Encoding.{Means}
-use Rattle.type_model.specs.ModelRules.{IsModel, Parts}
-use Rattle.type_model.specs.Names.{IsNamed}
 use Rattle.program_runner.specs.Refusal.{wants_memory as run_wants_memory}
 use Rattle.run_steps.specs.declared.fault.RunFault.{RunFault}
 use Rattle.run_steps.specs.declared.fault.RunFault.TheVariants as runs
 use Rattle.table_file.specs.Table.{TableParts}
 use Rattle.table_commands.specs.Answer.{Ask}
 use Rattle.table_commands.specs.Refusal.{wants_memory, refusal_of_run}
-use Rattle.table_commands.specs.Lines.{HasNoOctets, HasNoTape}
 use Rattle.table_commands.specs.declared.refusal.Refusal.{Refusal}
 use Rattle.table_commands.specs.declared.refusal.Refusal.TheVariants.{Unread, Unwritten, NoTable, NotRight, TooLong, NoType, BadHex, Refused, BadObject, NoInterface, NoReference, NoMemory}
 use Rattle.table_commands.specs.declared.values.Way.{Way}
 use Rattle.table_commands.specs.declared.values.Way.TheVariants.{Encode, Decode}
 use Rattle.value_text.specs.Refusal.{wants_memory as text_wants_memory}
-use Rattle.value_text.specs.Texts.{text_at}
 use Rattle.value_text.specs.declared.fault.ReadFault.{ReadFault}
 use Rattle.value_text.specs.declared.fault.ReadFault.TheVariants as texts
-use Rattle.text_commands.specs.Lines.{HasNone, HasNoOctetsSaid, HasNoText, IsRefusalAt, IsRefusedAt, IsTextLine, IsTextRefusal, Labels, Prints, PrintsTextOf, SaysNone}
+use Rattle.value_text.specs.Tapes.{IsTextOfTape}
+use Rattle.text_commands.specs.Lines.{HasNone, IsRefusalAt, IsTextLine, IsTextRefusal, Labels, Prints, PrintsTextOf, SaysNone}
 use Rattle.text_commands.specs.Refusal.{refusal_of_read}
 use Rattle.text_commands.specs.declared.refusal.TextRefusal.{TextRefusal}
 use Rattle.text_commands.specs.declared.refusal.TextRefusal.TheVariants.{Unsaid, Other}
 use Rattle.text_commands.specs.inner.Tapes.{IsOfRun, IsTextOf}
-
--- the node of a name is one of the graph
-pub in_graph : (model : Parts) → IsModel model → (node : ℕ) → IsNamed model.names node → node < length model.graph
-in_graph model rules node named =
-    let count = length model.graph in
-    All-contains (λ n. n < count) (map (λ (name : List ℕ × ℕ). name.1) model.names) node
-    (All-map (λ n. n < count) (λ (name : List ℕ × ℕ). name.1) model.names rules.names.within) named
-
--- the same of a graph that was handed out
-pub in_lent : (model lent : Parts) (graph : List Node) (node : ℕ) → lent ≡ model → graph ≡ model.graph → IsModel lent
-    → IsNamed model.names node → node < length graph
-in_lent model lent graph node model_is graph_is rules named =
-    subst (λ (nodes : List Node). node < length nodes) (sym graph_is) (in_graph model (subst IsModel model_is rules) node named)
 
 -- the line has the text of the value that the octets encode
 pub text_is : (labels : Labels) (graph lent : List Node) (node : ℕ) (order : Order) (pos : ℕ) (tape slice octets line : List ℕ) (taken : ℕ)
@@ -66,6 +46,17 @@ text_is labels graph lent node order pos tape slice octets line taken graph_is t
 -- a line feed behind the last of three parts
 pub behind : (count text words line : List ℕ) → line ≡ count ++ 32 ∷ words → words ≡ text ++ 10 ∷ [] → line ≡ count ++ 32 ∷ text ++ 10 ∷ []
 behind count text words line is words_are = is ∙ ap (λ (w : List ℕ). count ++ 32 ∷ w) words_are ∙ sym (append_assoc count (32 ∷ text) (10 ∷ []))
+
+-- the text of a value stands behind the count
+pub told : (labels : Labels) (graph : List Node) (node taken : ℕ) (tape text line : List ℕ)
+    → IsTextOfTape labels graph node tape text → line ≡ decimal taken ++ 32 ∷ text ++ 10 ∷ []
+    → IsTextOf labels graph node taken tape line
+told labels graph node taken tape text line of is = record {
+  value = of.value;
+  fits = of.fits;
+  tape_is = of.tape_is;
+  line_is = is ∙ ap (λ (t : List ℕ). decimal taken ++ 32 ∷ t ++ 10 ∷ []) of.text_is;
+}
 
 pub of_run : (fault : RunFault) (fact : Type 0) → OnFalse (run_wants_memory fault) fact → IsOfRun (Other (refusal_of_run fault)) fact
 of_run runs.NoMemory fact h = tt
@@ -114,14 +105,6 @@ module _ (labels : Labels) (graph : List Node) (node : ℕ) (ask : Ask) where
   bad_digits (NoReference fault) h = absurd cc
 
 module _ {A : Type 0} (text_of : A → List ℕ) where
-  -- the text of a value stands behind the count
-  pub told : {E : Type 0} (labels : Labels) (graph : List Node) (node taken : ℕ) (tape : List ℕ) (value : Tree)
-      → Fits graph (node_at graph node) value 64 → tape_of graph (node_at graph node) value ≡ tape → (r : Result A E)
-      → IfOk r (λ line. text_of line ≡ decimal taken ++ 32 ∷ escaped (print (text_at labels graph node value)) ++ 10 ∷ [])
-      → IfOk r (λ line. IsTextOf labels graph node taken tape (text_of line))
-  told labels graph node taken tape value fits tape_is (Ok line) is = record { value = value; fits = fits; tape_is = tape_is; line_is = is }
-  told labels graph node taken tape value fits tape_is (Err fault) is = tt
-
   pub run_refused : (way : Way) (labels : Labels) (graph : List Node) (node : ℕ) (ask : Ask) (fact : Type 0)
       → (fact → HasNone way labels graph node ask) → (r : Result A TextRefusal) → IfErr r (λ refusal. IsOfRun refusal fact)
       → IfErr r (IsRefusalAt way labels graph node ask)

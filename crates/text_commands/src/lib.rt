@@ -4,7 +4,6 @@
 
 mod marshal;
 mod outline;
-mod parts;
 mod refusal;
 
 pub use marshal::marshal_text;

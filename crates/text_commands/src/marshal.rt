@@ -1,19 +1,18 @@
 //! Values of a table, from texts to octets and back.
 
-ghost use Rattle.std.specs.Prelude.{◌≡◌, ◌∷◌, ◌++◌, [], ◌<◌, length, take, IfOk, IfErr, Ok};
+ghost use Rattle.std.specs.Prelude.{◌≡◌, ◌∷◌, ◌++◌, ◌<◌, length, IfOk, IfErr, Ok};
 ghost use Rattle.std.specs.String.{string_bytes};
 ghost use Rattle.std.specs.Fmt.{decimal};
-ghost use Rattle.hex.specs.Hex.{decode_of};
 ghost use Rattle.type_graph.specs.Value.{Fits, node_at, tape_of};
 ghost use Rattle.idl_value.specs.View.{tree_of};
 ghost use Rattle.type_model.specs.Names.{IsNamed};
 ghost use Rattle.table_commands.specs.Answer.{ask_of};
 ghost use Rattle.table_commands.specs.Lines.{PrintsOctets, HasNoOctets, HasNoTape};
 ghost use Rattle.text_commands.specs.Lines.{IsRefusalAt, IsTextLine, IsTextRefusal, Prints, PrintsSaid, PrintsTextOf};
-ghost use Rattle.text_commands.specs.inner.Tapes.{IsOfRun, IsTape, IsTextOf};
+ghost use Rattle.text_commands.specs.inner.Tapes.{IsOfRun, IsTextOf};
+ghost use Rattle.value_text.specs.Tapes.{IsTape};
 ghost use Rattle.table_commands.specs.declared.values.Way.TheVariants.{Encode, Decode};
 
-use crate::parts::{packed, printed, unpacked};
 use crate::refusal::TextRefusal;
 use idl_value::Value;
 use part_names::PartNames;
@@ -21,7 +20,7 @@ use position_checker::Accepted;
 use std::alloc::{AllocError, Global};
 use table_commands::{Refusal, ValueRequest, Way, octets_line, octets_of};
 use type_graph::Graph;
-use value_text::read;
+use value_text::{packed, printed, read};
 
 /// The octets of a value, as a line.
 fn encode_value<'a>(
@@ -82,8 +81,7 @@ fn text_line(
     requires tape { IsTape graph.now node tape.now }
     ensures { IfOk result (λ line. IsTextOf names.now graph.now node taken tape.now (string_bytes line)) }
 {
-    let value = unpacked(alloc, graph, node, tape)?;
-    let mut text = printed(alloc, graph, names, node, &value)?;
+    let mut text = printed(alloc, graph, names, node, tape)?;
     text.push_str("\n")?;
     counted(alloc, taken, text.as_str())
 }

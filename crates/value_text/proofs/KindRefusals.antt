@@ -17,7 +17,7 @@ use Rattle.value_text.specs.inner.Refusing.{IsLow, IsNamed, AreOctets, AreSound,
 use Rattle.reference_values.specs.Stringified.{Stringifies, FitsObject}
 use Rattle.value_text.specs.Texts.{refers}
 use Rattle.value_text.proofs.References.{fits_object}
-use Rattle.value_text.proofs.Printed.{fit_count}
+use Rattle.value_text.proofs.PrintedTexts.{fit_count}
 use Rattle.value_text.proofs.ReadLaws.{IsByte, together_byte, count_trees, as_many}
 use Rattle.value_text.proofs.Firsts.{IsFirst, number_first}
 use Rattle.value_text.proofs.OneNumber.{Is_string, text_in, number_one}

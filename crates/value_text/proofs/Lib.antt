@@ -1,7 +1,7 @@
 pub mod Numerals
 pub mod Writing
 pub mod References
-pub mod Printed
+pub mod PrintedTexts
 pub mod Firsts
 pub mod Slots
 pub mod ReadLaws
@@ -11,3 +11,4 @@ pub mod OneValue
 pub mod Refusals
 pub mod KindRefusals
 pub mod ObjectRefusals
+pub mod Named

@@ -17,7 +17,7 @@ use Rattle.value_text.specs.Says.{SaysNumber, SaysTogether, SaysReference, IsObj
 use Rattle.value_text.specs.inner.Refusing.{IsLow, IsNamed}
 use Rattle.reference_values.specs.Stringified.{Stringifies}
 use Rattle.reference_values.proofs.Spelled.{one_value as one_reference}
-use Rattle.value_text.proofs.Printed.{fit_count}
+use Rattle.value_text.proofs.PrintedTexts.{fit_count}
 use Rattle.value_text.proofs.Firsts.{IsFirst, says_begun}
 use Rattle.value_text.proofs.ReadLaws.{IsByte, together_byte}
 use Rattle.value_text.proofs.OneNumber.{text_in, Is_string, number_one, char_one}

@@ -1,26 +1,6 @@
 -- Tapes and what is printed of them.
-use Rattle.std.specs.Prelude.{◌≡◌, ℕ, List}
-use Rattle.json.specs.Print.{print}
-use Rattle.escaped_json.specs.Escaped.{escaped}
-use Rattle.type_graph.specs.declared.node.Node.{Node}
-use Rattle.type_graph.specs.Value.{Tree, Fits, node_at, tape_of}
-use Rattle.value_text.specs.Texts.{text_at}
 use Rattle.idlc_c.specs.declared.refusal.Refusal.{Refusal}
-use Rattle.idlc_c.specs.Handle.{Labels}
 use Rattle.idlc_c.specs.TextAnswers.{RefusesSaid}
-
--- some value of the node has the tape
-pub record IsTape (graph : List Node) (node : ℕ) (tape : List ℕ) : Type 0 where
-  pub value : Tree
-  pub fits : Fits graph (node_at graph node) value 64
-  pub tape_is : tape_of graph (node_at graph node) value ≡ tape
-
--- the text is what is printed of a value with the tape
-pub record IsPrintOf (names : Labels) (graph : List Node) (node : ℕ) (tape text : List ℕ) : Type 0 where
-  pub value : Tree
-  pub fits : Fits graph (node_at graph node) value 64
-  pub tape_is : tape_of graph (node_at graph node) value ≡ tape
-  pub text_is : text ≡ escaped (print (text_at names graph node value))
 
 -- want of memory, or there is no value
 abbrev pub RefusesRun : Type 0 → Refusal → Type 0

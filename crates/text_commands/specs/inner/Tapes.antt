@@ -10,12 +10,6 @@ use Rattle.value_text.specs.Texts.{text_at}
 use Rattle.type_graph.specs.declared.node.Node.{Node}
 use Rattle.type_graph.specs.Value.{Tree, Fits, node_at, tape_of}
 
--- some value of the node has the tape
-pub record IsTape (graph : List Node) (node : ℕ) (tape : List ℕ) : Type 0 where
-  pub value : Tree
-  pub fits : Fits graph (node_at graph node) value 64
-  pub tape_is : tape_of graph (node_at graph node) value ≡ tape
-
 -- the line has the text of a value with the tape behind the count
 pub record IsTextOf (labels : List (List (List ℕ))) (graph : List Node) (node taken : ℕ)
     (tape line : List ℕ) : Type 0 where

@@ -10,7 +10,7 @@ use Rattle.type_graph.specs.Value.{node_at, Fits}
 use Rattle.idl_value.specs.View.{tree_of}
 use Rattle.value_text.specs.Texts.{text_at}
 use Rattle.value_text.specs.Says.{Says}
-use Rattle.value_text.proofs.Printed.{says}
+use Rattle.value_text.proofs.PrintedTexts.{says}
 use Rattle.value_text.proofs.print.Goals as goal
 
 pub returns-in-Ok-clause-says : goal.returns-in-Ok-clause-says

@@ -1,5 +1,5 @@
 use Rattle.std.proofs.Common.{rules}
-use Rattle.call_texts.proofs.Facts.{in_lent}
+use Rattle.value_text.proofs.Named.{in_lent}
 use Rattle.call_texts.proofs.argument.argument_tape.Goals as goal
 
 pub tape_in-requires : goal.tape_in-requires

@@ -1,15 +1,14 @@
 use Rattle.giop_messages.specs.Messages.{answered_of}
-use Rattle.program_runner.proofs.Refusals.{not_for_memory}
+use Rattle.reply_bodies.proofs.Faults.{none_then, some_then}
 use Rattle.call_texts.proofs.Ids.{id_tape_is, no_id}
 use Rattle.call_texts.proofs.raised.id_tape.Goals as goal
 
-pub returns-in-Ok-clause-found : goal.returns-in-Ok-clause-found
-returns-in-Ok-clause-found c =
-    id_tape_is (answered_of c.args.reply.now) c.in-Ok.field-0-1 c.in-Ok.tape.items c.in-Ok.ensures.found
+pub returns-in-Some-clause-found : goal.returns-in-Some-clause-found
+returns-in-Some-clause-found c =
+    id_tape_is (answered_of c.args.reply.now) c.in-Some.field-0-1 c.in-Some.tape.items
+    (some_then c.in_ok-tape.field-0 _ _ c.in-Some.is c.in_ok-tape.ensures.found)
 
-pub returns-in_default : goal.returns-in_default
-returns-in_default c = record {
-  found = tt;
-  none = no_id c.args.reply.now.order c.args.reply.now.body_at c.args.reply.now.octets.now
-      (not_for_memory c.in-Err.fault _ c.in_default.not-NoMemory c.in-Err.ensures.refused);
-}
+pub returns-in-None-clause-none : goal.returns-in-None-clause-none
+returns-in-None-clause-none c =
+    no_id c.args.reply.now.order c.args.reply.now.body_at c.args.reply.now.octets.now
+    (none_then c.in_ok-tape.field-0 _ c.in-None.is c.in_ok-tape.ensures.none)

@@ -1,5 +1,5 @@
 use Rattle.std.proofs.Common.{rules}
-use Rattle.idlc_c.proofs.ValueLaws.{in_lent}
+use Rattle.value_text.proofs.Named.{in_lent}
 use Rattle.idlc_c.proofs.text.octets_said.Goals as goal
 
 pub read-requires : goal.read-requires

@@ -1,5 +1,6 @@
 use Rattle.std.proofs.Common.{rules, string_bytes}
-use Rattle.idlc_c.proofs.ValueLaws.{in_lent, text_is}
+use Rattle.value_text.proofs.Named.{in_lent}
+use Rattle.idlc_c.proofs.ValueLaws.{text_is}
 use Rattle.idlc_c.proofs.text.text_of.Goals as goal
 
 pub printed-requires-clause-there : goal.printed-requires-clause-there

@@ -4,7 +4,7 @@ use Rattle.type_graph.specs.Value.{node_at, tape_of}
 use Rattle.idl_value.specs.View.{tree_of}
 use Rattle.program_runner.specs.Refusal.{wants_memory}
 use Rattle.idlc_c.specs.Answers.{HasNoOctets}
-use Rattle.idlc_c.proofs.ValueLaws.{in_lent}
+use Rattle.value_text.proofs.Named.{in_lent}
 use Rattle.idlc_c.proofs.text.written.Goals as goal
 
 pub packed-requires-clause-there : goal.packed-requires-clause-there

@@ -1,5 +1,6 @@
 use Rattle.std.proofs.Common.{rules, string_bytes}
-use Rattle.text_commands.proofs.Facts.{in_lent, text_is}
+use Rattle.value_text.proofs.Named.{in_lent}
+use Rattle.text_commands.proofs.Facts.{text_is}
 use Rattle.text_commands.proofs.marshal.decode.Goals as goal
 
 pub text_line-requires-clause-there : goal.text_line-requires-clause-there

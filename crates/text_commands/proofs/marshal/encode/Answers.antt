@@ -5,7 +5,8 @@ use Rattle.type_graph.specs.declared.node.Node.{Node}
 use Rattle.table_commands.specs.Answer.{ask_of}
 use Rattle.value_text.specs.Refusal.{wants_memory}
 use Rattle.text_commands.specs.Lines.{SaysNone}
-use Rattle.text_commands.proofs.Facts.{in_lent, unsaid}
+use Rattle.value_text.proofs.Named.{in_lent}
+use Rattle.text_commands.proofs.Facts.{unsaid}
 use Rattle.text_commands.proofs.marshal.encode.Goals as goal
 
 pub read-requires : goal.read-requires

@@ -5,7 +5,8 @@ use Rattle.type_graph.specs.Value.{node_at, tape_of}
 use Rattle.idl_value.specs.View.{tree_of}
 use Rattle.program_runner.specs.Refusal.{wants_memory}
 use Rattle.table_commands.specs.Lines.{HasNoOctets}
-use Rattle.text_commands.proofs.Facts.{in_lent, of_run}
+use Rattle.value_text.proofs.Named.{in_lent}
+use Rattle.text_commands.proofs.Facts.{of_run}
 use Rattle.text_commands.proofs.marshal.encode_value.Goals as goal
 
 pub packed-requires-clause-there : goal.packed-requires-clause-there

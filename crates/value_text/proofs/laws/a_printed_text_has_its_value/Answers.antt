@@ -1,7 +1,7 @@
 use Rattle.part_names.specs.Names.{names_at}
 use Rattle.type_graph.specs.Value.{node_at}
 use Rattle.value_text.specs.Texts.{text_at}
-use Rattle.value_text.proofs.Printed.{says}
+use Rattle.value_text.proofs.PrintedTexts.{says}
 use Rattle.value_text.proofs.OneValue.{stands_for_one}
 use Rattle.value_text.proofs.laws.a_printed_text_has_its_value.Goals as goal
 

@@ -2,20 +2,21 @@
 
 ghost use Rattle.std.specs.Prelude.{◌≡◌, ◌<◌, length, IfOk};
 ghost use Rattle.std.specs.String.{string_bytes};
-ghost use Rattle.escaped_json.specs.Escaped.{escaped};
-ghost use Rattle.json.specs.Print as json_text;
-ghost use Rattle.type_graph.specs.Value.{Fits, Tree, node_at, tape_of};
+ghost use Rattle.type_graph.specs.Value.{Fits, node_at, tape_of};
 ghost use Rattle.idl_value.specs.View.{tree_of};
-ghost use Rattle.value_text.specs.Texts.{text_at};
-ghost use Rattle.text_commands.specs.inner.Tapes.{IsTape};
+ghost use Rattle.value_text.specs.Tapes.{IsTape, IsTextOfTape};
 
+use crate::fault::PrintFault;
+use crate::print;
 use idl_value::{Value, ValueFault, pack, unpack};
 use part_names::PartNames;
 use std::alloc::{AllocError, Global};
 use type_graph::Graph;
-use value_text::{PrintFault, print};
 
 /// The tape of a value of a node.
+///
+/// # Errors
+/// Want of memory.
 pub fn packed(alloc: Global, graph: &Graph, node: u32, value: &Value) -> Result<Vec<u8>, AllocError>
     requires there { node < length graph.now }
     requires fits { Fits graph.now (node_at graph.now node) (tree_of value.now) 64 }
@@ -29,7 +30,7 @@ pub fn packed(alloc: Global, graph: &Graph, node: u32, value: &Value) -> Result<
 }
 
 /// The value of a node that has the tape.
-pub fn unpacked(alloc: Global, graph: &Graph, node: u32, tape: &[u8]) -> Result<Value, AllocError>
+fn unpacked(alloc: Global, graph: &Graph, node: u32, tape: &[u8]) -> Result<Value, AllocError>
     requires there { node < length graph.now }
     requires tape { IsTape graph.now node tape.now }
     ensures fits { IfOk result (λ value. Fits graph.now (node_at graph.now node) (tree_of value) 64) }
@@ -42,20 +43,23 @@ pub fn unpacked(alloc: Global, graph: &Graph, node: u32, tape: &[u8]) -> Result<
     }
 }
 
-/// The text of a value of a node.
+/// The text of the value of a node that has the tape.
+///
+/// # Errors
+/// Want of memory.
 pub fn printed(
     alloc: Global,
     graph: &Graph,
     names: &PartNames,
     node: u32,
-    value: &Value,
+    tape: &[u8],
 ) -> Result<String, AllocError>
     requires there { node < length graph.now }
-    requires fits { Fits graph.now (node_at graph.now node) (tree_of value.now) 64 }
-    ensures { IfOk result (λ text. string_bytes text ≡ escaped (json_text.print (text_at names.now graph.now node
-        (tree_of value.now)))) }
+    requires tape { IsTape graph.now node tape.now }
+    ensures { IfOk result (λ text. IsTextOfTape names.now graph.now node tape.now (string_bytes text)) }
 {
-    match print(alloc, graph, names, node, value) {
+    let value = unpacked(alloc, graph, node, tape)?;
+    match print(alloc, graph, names, node, &value) {
         Ok(text) => Ok(text),
         Err(PrintFault::NoMemory) => Err(AllocError),
         Err(PrintFault::NotOfType) => unreachable!(),
