@@ -1,8 +1,10 @@
 -- A call with its arguments as text, and how it ends.
-use Rattle.std.specs.Prelude.{◌≡◌, ℕ, Bool, true, false, List, Option, Some, None, Result, Ok, Err}
+use Rattle.std.specs.Prelude.{◌≡◌, ◌⊎◌, ℕ, Bool, true, false, List, Option, Some, None, Result, Ok, Err}
 use Rattle.type_graph.specs.declared.width.Order.{Order}
 use Rattle.giop.specs.Made.{given}
 use Rattle.giop_messages.specs.Written.{Given}
+use Rattle.giop_client.specs.declared.fault.CallFault.{CallFault}
+use Rattle.giop_client.specs.declared.fault.CallFault.TheVariants as faults
 use Rattle.giop_client.specs.declared.request.Request.{Request}
 use Rattle.object_references.specs.References.{Reference}
 use Rattle.call_texts.specs.Bodies.{IsTapeOfText, SaysNone}
@@ -12,14 +14,13 @@ use Rattle.call_texts.specs.declared.outcome.Outcome.TheVariants as outcomes
 use Rattle.object_calls.specs.Lines.{Line}
 use Rattle.object_calls.specs.Talks.{Telling, asking}
 use Rattle.followed_calls.specs.Followed.{IsFollowed}
-use Rattle.followed_calls.specs.declared.fault.ObjectFault.{ObjectFault}
 use Rattle.call_commands.specs.Choices.{Choice, chosen}
 use Rattle.call_commands.specs.declared.ask.TextCall.{TextCall}
 use Rattle.call_commands.specs.declared.ask.Types.{Types}
 use Rattle.call_commands.specs.declared.ending.Ending.{Ending}
 use Rattle.call_commands.specs.declared.ending.Ending.TheVariants.{Returned, Raised, Failed, Sent}
 use Rattle.call_commands.specs.declared.fault.CallRefusal.{CallRefusal}
-use Rattle.call_commands.specs.declared.fault.CallRefusal.TheVariants.{NoOperation, Unsaid, Unanswered, Readdressed, NoMemory}
+use Rattle.call_commands.specs.declared.fault.CallRefusal.TheVariants.{NoOperation, Unsaid, Unanswered}
 
 -- which answers a request wants: none of a oneway operation, else all (response_flags)
 abbrev pub flags : Bool → ℕ
@@ -35,7 +36,7 @@ pub record IsRequestOf (choice : Choice) (ask : TextCall) (request : Request) : 
 
 -- It was sent with the arguments that the text says, and followed to where the object is.
 pub record IsSaid (Told Told' : Telling) (choice : Choice) (ask : TextCall) (reference : Reference) (lines : List Line)
-    (result : Result (Option Outcome) ObjectFault) (lines' : List Line) : Type 0 where
+    (result : Result (Option Outcome) CallFault) (lines' : List Line) : Type 0 where
   pub tape : List ℕ
   pub arguments : IsTapeOfText choice.labels choice.model.graph choice.request ask.value.now tape
   pub request : Request
@@ -53,11 +54,28 @@ abbrev pub IsLastOutcome : Outcome → Type 0
 IsLastOutcome (outcomes.Forwarded ior) = ⊥
 IsLastOutcome outcome = Unit {0}
 
+-- it asks for a form of address, and this stands for it
+pub record IsAskingForm (outcome : Outcome) (fault : CallFault) : Type 0 where
+  pub disposition : ℕ
+  pub outcome_is : outcome ≡ outcomes.Readdressed disposition
+  pub fault_is : fault ≡ faults.NeedsAddressingMode
+
 -- the ending of an outcome
-abbrev pub IsEnding : Outcome → Result Ending CallRefusal → Type 0
+abbrev pub IsEnding : Outcome → Result Ending CallFault → Type 0
 IsEnding outcome (Ok ending) = outcome_of ending ≡ Some outcome
-IsEnding outcome (Err Readdressed) = (disposition : ℕ) × (outcome ≡ outcomes.Readdressed disposition)
-IsEnding outcome (Err refusal) = ⊥
+IsEnding outcome (Err fault) = IsAskingForm outcome fault
+
+-- memory was wanted for the arguments, and nothing was dialled
+pub record IsUnstarted (fault : CallFault) (lines lines' : List Line) : Type 0 where
+  pub fault_is : fault ≡ faults.NoMemory
+  pub lines_are : lines' ≡ lines
+
+-- the last reply asked for a form of address
+pub record IsReaddressed (Told Told' : Telling) (choice : Choice) (ask : TextCall) (reference : Reference)
+    (lines : List Line) (fault : CallFault) (lines' : List Line) : Type 0 where
+  pub outcome : Outcome
+  pub asks : IsAskingForm outcome fault
+  pub said : IsSaid Told Told' choice ask reference lines (Ok (Some outcome)) lines'
 
 -- how the call of an operation ends; where it isn't sent, nothing was dialled
 abbrev pub IsCarriedOut : Telling → Telling → Choice → TextCall → Reference → List Line → Result Ending CallRefusal
@@ -68,11 +86,8 @@ IsCarriedOut Told Told' choice ask reference lines (Err NoOperation) lines' = �
 IsCarriedOut Told Told' choice ask reference lines (Err (Unsaid fault)) lines' =
     SaysNone choice.labels choice.model.graph choice.request ask.value.now × (lines' ≡ lines)
 IsCarriedOut Told Told' choice ask reference lines (Err (Unanswered fault)) lines' =
-    IsSaid Told Told' choice ask reference lines (Err fault) lines'
-IsCarriedOut Told Told' choice ask reference lines (Err Readdressed) lines' =
-    (disposition : ℕ)
-    × IsSaid Told Told' choice ask reference lines (Ok (Some (outcomes.Readdressed disposition))) lines'
-IsCarriedOut Told Told' choice ask reference lines (Err NoMemory) lines' = Unit {0}
+    IsUnstarted fault lines lines' ⊎ IsSaid Told Told' choice ask reference lines (Err fault) lines'
+    ⊎ IsReaddressed Told Told' choice ask reference lines fault lines'
 
 -- the operation that the word names was called
 pub record IsCalledBy (Told Told' : Telling) (types : Types) (ask : TextCall) (reference : Reference)

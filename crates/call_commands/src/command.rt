@@ -17,8 +17,8 @@ use std::alloc::Global;
 ///
 /// # Errors
 /// `NoOperation`, `Unsaid` before anything is dialled; then as `call_object` of followed_calls says.
-/// `Readdressed` where its server asks for a form of address that there isn't, or again for one after the
-/// object was named as it asked. Want of memory.
+/// `NeedsAddressingMode` also where its server asks for a form of address that there isn't, or again for
+/// one after the object was named as it asked. Want of memory.
 pub fn call_text<D: Dial>(
     types: &Types<'_>,
     alloc: Global,

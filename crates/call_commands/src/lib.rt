@@ -11,4 +11,4 @@ mod sending;
 pub use ask::{TextCall, Types};
 pub use command::call_text;
 pub use ending::{Ending, ExceptionLine};
-pub use fault::{CallRefusal, Cause};
+pub use fault::CallRefusal;

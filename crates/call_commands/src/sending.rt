@@ -12,9 +12,9 @@ use crate::choice::Choice;
 use crate::ending::Ending;
 use crate::fault::CallRefusal;
 use call_texts::{Outcome, argument_tape};
-use followed_calls::{ObjectFault, Wanted, call_object};
+use followed_calls::{Wanted, call_object};
 use giop::Addressed;
-use giop_client::Request;
+use giop_client::{CallFault, Request};
 use object_calls::Dial;
 use object_references::Ior;
 use std::alloc::Global;
@@ -28,7 +28,7 @@ fn flags_of(oneway: bool) -> u8
 }
 
 /// How a call ends, by its outcome, which isn't that the object is elsewhere.
-fn ending_of(outcome: Outcome) -> Result<Ending, CallRefusal>
+fn ending_of(outcome: Outcome) -> Result<Ending, CallFault>
     requires { IsLastOutcome outcome }
     ensures { IsEnding outcome result }
 {
@@ -36,7 +36,7 @@ fn ending_of(outcome: Outcome) -> Result<Ending, CallRefusal>
         Outcome::Returned(text) => Ok(Ending::Returned(text)),
         Outcome::Raised(text) => Ok(Ending::Raised(text)),
         Outcome::Failed(exception) => Ok(Ending::Failed(exception)),
-        Outcome::Readdressed(_) => Err(CallRefusal::Readdressed),
+        Outcome::Readdressed(_) => Err(CallFault::NeedsAddressingMode),
         Outcome::Forwarded(_) => unreachable!(),
     }
 }
@@ -50,7 +50,7 @@ fn said<D: Dial>(
     choice: &Choice<'_>,
     ask: &TextCall<'_>,
     tape: &[u8],
-) -> Result<Option<Outcome>, ObjectFault>
+) -> Result<Option<Outcome>, CallFault>
     requires request { IsNamed choice.now.table.now.model.names choice.now.request }
     requires reply { IsNamed choice.now.table.now.model.names choice.now.reply }
     requires arguments { IsTapeOfText choice.now.names.now choice.now.table.now.model.graph choice.now.request
@@ -102,14 +102,17 @@ pub(crate) fn called<D: Dial>(
     let tape = match argument_tape(alloc, choice.table, choice.names, choice.request, ask.value) {
         Ok(tape) => tape,
         Err(ReadFault::Refused(refusal)) => return Err(CallRefusal::Unsaid(refusal)),
-        Err(ReadFault::NoMemory) => return Err(CallRefusal::NoMemory),
+        Err(ReadFault::NoMemory) => return Err(CallRefusal::Unanswered(CallFault::NoMemory)),
     };
     let end = match said(types, alloc, dial, ior, choice, ask, tape.as_slice()) {
         Ok(end) => end,
         Err(fault) => return Err(CallRefusal::Unanswered(fault)),
     };
     match end {
-        Some(outcome) => ending_of(outcome),
+        Some(outcome) => match ending_of(outcome) {
+            Ok(ending) => Ok(ending),
+            Err(fault) => Err(CallRefusal::Unanswered(fault)),
+        },
         None => Ok(Ending::Sent),
     }
 }

@@ -1,6 +1,8 @@
 -- Calls that were forwarded one after the other.
-use Rattle.std.proofs.Common.{ℕ, ◌+◌, ◌≤◌, List, [], ◌∷◌, ◌++◌, length, refl, sym, ap, ◌∙◌, subst, append_assoc, append-nil, length-append, inl, inr, Option, Some, None, Result, Ok, Err}
+use Rattle.std.proofs.Common.{◌≡◌, ℕ, ◌+◌, ◌≤◌, List, [], ◌∷◌, ◌++◌, length, refl, sym, ap, ◌∙◌, subst, append_assoc, append-nil, length-append, inl, inr, Option, Some, None, Result, Ok, Err}
 use Rattle.iiop_broker.specs.Outcomes.{Ends}
+use Rattle.giop_client.specs.declared.fault.CallFault.{CallFault}
+use Rattle.giop_client.specs.declared.fault.CallFault.TheVariants.{TooManyForwards}
 use Rattle.object_references.specs.References.{Reference, reference_of}
 use Rattle.object_references.specs.declared.reference.Ior.{Ior}
 use Rattle.call_texts.specs.Outcomes.{Called}
@@ -9,27 +11,22 @@ use Rattle.call_texts.specs.declared.outcome.Outcome.TheVariants.{Returned, Rais
 use Rattle.object_calls.specs.Lines.{Line}
 use Rattle.object_calls.specs.Talks.{Asking}
 use Rattle.followed_calls.specs.Heeded.{IsCalledHeeding, IsHeeded}
-use Rattle.followed_calls.specs.Hops.{InForm}
-use Rattle.followed_calls.specs.Tries.{IsTried}
 use Rattle.followed_calls.specs.Followed.{AreForwarded, At, IsFollowed, IsForwarded, IsLast, start}
 use Rattle.followed_calls.specs.inner.Underway.{IsUnderway}
-use Rattle.followed_calls.specs.declared.fault.ObjectFault.{ObjectFault}
-use Rattle.followed_calls.specs.declared.fault.ObjectFault.TheVariants.{Unanswered, OtherBody, TooMany, NoMemory}
 
 -- the call wasn't forwarded
-abbrev pub IsOther : Result (Option Outcome) ObjectFault → Type 0
+abbrev pub IsOther : Result (Option Outcome) CallFault → Type 0
 IsOther (Ok (Some (Forwarded ior))) = ⊥
 IsOther result = Unit {0}
+
+pub isnt_forwarded : (outcome : Outcome) → ((ior : Ior) → outcome ≡ Forwarded ior → ⊥) → IsOther (Ok (Some outcome))
+isnt_forwarded (Forwarded ior) other = absurd (other ior refl)
+isnt_forwarded outcome other = tt
 
 one_more : (ask : Asking) (called : Called) (from : At) (hops : List At) (last to : At)
     → AreForwarded ask called from hops last → IsForwarded ask called last to → AreForwarded ask called from (hops ++ to ∷ []) to
 one_more ask called from [] last to same step = (subst (λ (a : At). IsForwarded ask called a to) (sym same) step, refl)
 one_more ask called from (hop ∷ hops) last to chain step = (chain.0, one_more ask called hop hops last to chain.1 step)
-
-few_tries : (ask : InForm) (called : Called) (reference : Reference) (lines lines' : List Line) (tos : List Ends)
-    → IsTried ask called reference lines (Err TooMany) lines' tos → ⊥
-few_tries ask called reference lines lines' tos (inl unclosed) = unclosed.once
-few_tries ask called reference lines lines' tos (inr more) = more.again
 
 module _ (Told : List Ends → Type 0) (ask : Asking) (called : Called) (reference : Reference) (lines : List Line) where
   pub begun : IsUnderway Told Told ask called reference lines 0 reference lines
@@ -50,7 +47,7 @@ module _ (Told : List Ends → Type 0) (ask : Asking) (called : Called) (referen
     all_gone tos gone all told =
         subst Told' (append_assoc all under.last.tos tos) (gone (all ++ under.last.tos) (under.gone all told))
 
-    here : (tos : List Ends) (result : Result (Option Outcome) ObjectFault) → IsHeeded ask called at mid result lines' tos
+    here : (tos : List Ends) (result : Result (Option Outcome) CallFault) → IsHeeded ask called at mid result lines' tos
         → IsHeeded ask called under.last.reference under.last.lines result lines' tos
     here tos result tried =
         subst (λ (r : Reference). IsHeeded ask called r under.last.lines result lines' tos) (sym under.reference_is)
@@ -78,7 +75,7 @@ module _ (Told : List Ends → Type 0) (ask : Asking) (called : Called) (referen
         }
 
     -- it ends here
-    pub ended : (result : Result (Option Outcome) ObjectFault) → count ≤ 8 → IsOther result
+    pub ended : (result : Result (Option Outcome) CallFault) → count ≤ 8 → IsOther result
         → IsCalledHeeding Mid Told' ask called at mid result lines' → IsFollowed Told Told' ask called reference lines result lines'
     ended result few other step = record {
       hops = under.hops;
@@ -92,32 +89,30 @@ module _ (Told : List Ends → Type 0) (ask : Asking) (called : Called) (referen
         small : length under.hops ≤ 8
         small = subst (λ n. n ≤ 8) (sym under.count_is) few
 
-        few_enough : IsHeeded ask called under.last.reference under.last.lines (Err TooMany) lines' step.tos → ⊥
-        few_enough (inl unasked) = few_tries _ _ _ _ _ _ unasked.tried
-        few_enough (inr other) = few_tries _ _ _ _ _ _ other.again
-
-        by_result : (r : Result (Option Outcome) ObjectFault) → IsOther r
+        by_result : (r : Result (Option Outcome) CallFault) → IsOther r
             → IsHeeded ask called under.last.reference under.last.lines r lines' step.tos
             → IsLast ask called (length under.hops) under.last r lines' step.tos
         by_result (Ok (Some (Forwarded ior))) other tried = absurd other
-        by_result (Ok (Some (Returned text))) other tried = (small, tried)
-        by_result (Ok (Some (Raised text))) other tried = (small, tried)
-        by_result (Ok (Some (Failed exception))) other tried = (small, tried)
-        by_result (Ok (Some (Readdressed disposition))) other tried = (small, tried)
-        by_result (Ok None) other tried = (small, tried)
-        by_result (Err TooMany) other tried = absurd (few_enough tried)
-        by_result (Err OtherBody) other tried = (small, tried)
-        by_result (Err NoMemory) other tried = (small, tried)
-        by_result (Err (Unanswered fault)) other tried = (small, tried)
+        by_result (Ok (Some (Returned text))) other tried = inl (small, tried)
+        by_result (Ok (Some (Raised text))) other tried = inl (small, tried)
+        by_result (Ok (Some (Failed exception))) other tried = inl (small, tried)
+        by_result (Ok (Some (Readdressed disposition))) other tried = inl (small, tried)
+        by_result (Ok None) other tried = inl (small, tried)
+        by_result (Err fault) other tried = inl (small, tried)
 
   pub too_many : (Mid : List Ends → Type 0) (at : Reference) (mid : List Line)
       → IsUnderway Told Mid ask called reference lines 9 at mid
-      → IsFollowed Told Mid ask called reference lines (Err TooMany) mid
+      → IsFollowed Told Mid ask called reference lines (Err TooManyForwards) mid
   too_many Mid at mid under = record {
     hops = under.hops;
     last = under.last;
     forwarded = under.forwarded;
     tos = [];
     gone = λ all told. subst (λ (l : List Ends). Mid (all ++ l)) (sym (append-nil under.last.tos)) (under.gone all told);
-    ends = (under.count_is, sym under.lines_are, refl);
+    ends = inr (record {
+      result_is = refl;
+      count_is = under.count_is;
+      lines_are = sym under.lines_are;
+      tos_are = refl;
+    });
   }

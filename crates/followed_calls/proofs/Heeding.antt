@@ -1,6 +1,7 @@
 -- Calls that are made once more in another form of address.
 use Rattle.std.proofs.Common.{◌≡◌, ℕ, zero, suc, List, ◌++◌, refl, subst, append_assoc, inl, inr, Option, Some, None, Result}
 use Rattle.iiop_broker.specs.Outcomes.{Ends}
+use Rattle.giop_client.specs.declared.fault.CallFault.{CallFault}
 use Rattle.object_references.specs.References.{Reference}
 use Rattle.call_texts.specs.Outcomes.{Called}
 use Rattle.call_texts.specs.declared.outcome.Outcome.{Outcome}
@@ -11,7 +12,6 @@ use Rattle.object_calls.specs.declared.form.Form.TheVariants as forms
 use Rattle.followed_calls.specs.Hops.{in_form}
 use Rattle.followed_calls.specs.Tries.{IsCalledTwice}
 use Rattle.followed_calls.specs.Heeded.{IsCalledHeeding, asked_in, form_of}
-use Rattle.followed_calls.specs.declared.fault.ObjectFault.{ObjectFault}
 
 -- any other number is that of no form
 pub no_form : (n : ℕ) → (n ≡ 0 → ⊥) → (n ≡ 1 → ⊥) → (n ≡ 2 → ⊥) → form_of n ≡ None
@@ -21,14 +21,14 @@ no_form (suc (suc zero)) a b c = absurd (c refl)
 no_form (suc (suc (suc n))) a b c = refl
 
 module _ (Told Mid Told' : List Ends → Type 0) (ask : Asking) (called : Called) (reference : Reference)
-    (lines mid lines' : List Line) (result : Result (Option Outcome) ObjectFault) where
+    (lines mid lines' : List Line) (result : Result (Option Outcome) CallFault) where
   pub unasked : asked_in result ≡ None
       → IsCalledTwice Told Told' (in_form forms.Key ask) called reference lines result lines'
       → IsCalledHeeding Told Told' ask called reference lines result lines'
   unasked none twice =
       record { tos = twice.tos; gone = twice.gone; heeded = inl (record { unasked = none; tried = twice.tried }) }
 
-  pub heeded : (answered : Result (Option Outcome) ObjectFault) (form : Form) → asked_in answered ≡ Some form
+  pub heeded : (answered : Result (Option Outcome) CallFault) (form : Form) → asked_in answered ≡ Some form
       → IsCalledTwice Told Mid (in_form forms.Key ask) called reference lines answered mid
       → IsCalledTwice Mid Told' (in_form form ask) called reference mid result lines'
       → IsCalledHeeding Told Told' ask called reference lines result lines'

@@ -1,6 +1,8 @@
 -- Calls that are forwarded.
-use Rattle.std.specs.Prelude.{◌≡◌, ◌≤◌, ℕ, List, [], ◌∷◌, ◌++◌, length, Option, Some, Result, Ok, Err}
+use Rattle.std.specs.Prelude.{◌≡◌, ◌≤◌, ◌⊎◌, ℕ, List, [], ◌∷◌, ◌++◌, length, Option, Some, Result, Ok, Err}
 use Rattle.iiop_broker.specs.Outcomes.{Ends}
+use Rattle.giop_client.specs.declared.fault.CallFault.{CallFault}
+use Rattle.giop_client.specs.declared.fault.CallFault.TheVariants.{TooManyForwards}
 use Rattle.object_references.specs.References.{Reference, reference_of}
 use Rattle.object_references.specs.declared.reference.Ior.{Ior}
 use Rattle.call_texts.specs.Outcomes.{Called}
@@ -9,8 +11,6 @@ use Rattle.call_texts.specs.declared.outcome.Outcome.TheVariants.{Forwarded}
 use Rattle.object_calls.specs.Lines.{Line}
 use Rattle.object_calls.specs.Talks.{Asking, Telling}
 use Rattle.followed_calls.specs.Heeded.{IsHeeded}
-use Rattle.followed_calls.specs.declared.fault.ObjectFault.{ObjectFault}
-use Rattle.followed_calls.specs.declared.fault.ObjectFault.TheVariants.{TooMany}
 
 -- what stands between two calls: where the object is, and what was dialled and handed back so far
 pub record At : Type 0 where
@@ -34,17 +34,25 @@ AreForwarded ask called from (to ∷ more) last = IsForwarded ask called from to
 abbrev pub start : Reference → List Line → At
 start reference lines = record { reference = reference; lines = lines; tos = [] }
 
+-- it was elsewhere for the ninth time, and isn't called there
+pub record IsTooFar (count : ℕ) (last : At) (result : Result (Option Outcome) CallFault) (lines' : List Line)
+    (tos : List Ends) : Type 0 where
+  pub result_is : result ≡ Err TooManyForwards
+  pub count_is : count ≡ 9
+  pub lines_are : lines' ≡ last.lines
+  pub tos_are : tos ≡ []
+
 -- how it ends behind so many forwards
-abbrev pub IsLast : Asking → Called → ℕ → At → Result (Option Outcome) ObjectFault → List Line → List Ends → Type 0
+abbrev pub IsLast : Asking → Called → ℕ → At → Result (Option Outcome) CallFault → List Line → List Ends → Type 0
 IsLast ask called count last (Ok (Some (Forwarded ior))) lines' tos = ⊥
-IsLast ask called count last (Err TooMany) lines' tos = (count ≡ 9) × (lines' ≡ last.lines) × (tos ≡ [])
 IsLast ask called count last result lines' tos =
-    (count ≤ 8) × IsHeeded ask called last.reference last.lines result lines' tos
+    ((count ≤ 8) × IsHeeded ask called last.reference last.lines result lines' tos)
+    ⊎ IsTooFar count last result lines' tos
 
 -- The object was called where its reference says; where it was said to be elsewhere there, at most 8 times; and this is
 -- what was answered at last.
 pub record IsFollowed (Told Told' : Telling) (ask : Asking) (called : Called) (reference : Reference)
-    (lines : List Line) (result : Result (Option Outcome) ObjectFault) (lines' : List Line) : Type 0 where
+    (lines : List Line) (result : Result (Option Outcome) CallFault) (lines' : List Line) : Type 0 where
   pub hops : List At
   pub last : At
   pub forwarded : AreForwarded ask called (start reference lines) hops last

@@ -2,6 +2,7 @@
 -- formats: NEEDS_ADDRESSING_MODE).
 use Rattle.std.specs.Prelude.{◌≡◌, ◌⊎◌, ℕ, zero, suc, List, ◌++◌, Option, Some, None, Result, Ok}
 use Rattle.iiop_broker.specs.Outcomes.{Ends}
+use Rattle.giop_client.specs.declared.fault.CallFault.{CallFault}
 use Rattle.object_references.specs.References.{Reference}
 use Rattle.call_texts.specs.Outcomes.{Called}
 use Rattle.call_texts.specs.declared.outcome.Outcome.{Outcome}
@@ -12,7 +13,6 @@ use Rattle.object_calls.specs.declared.form.Form.{Form}
 use Rattle.object_calls.specs.declared.form.Form.TheVariants as forms
 use Rattle.followed_calls.specs.Hops.{in_form}
 use Rattle.followed_calls.specs.Tries.{IsTried}
-use Rattle.followed_calls.specs.declared.fault.ObjectFault.{ObjectFault}
 
 -- KeyAddr, ProfileAddr, ReferenceAddr (AddressingDisposition)
 abbrev pub form_of : ℕ → Option Form
@@ -22,37 +22,37 @@ form_of (suc (suc zero)) = Some forms.Reference
 form_of disposition = None
 
 -- the form that an answer asks for
-abbrev pub asked_in : Result (Option Outcome) ObjectFault → Option Form
+abbrev pub asked_in : Result (Option Outcome) CallFault → Option Form
 asked_in (Ok (Some (Readdressed disposition))) = form_of disposition
 asked_in result = None
 
 -- the object was called by its key, and no form was asked for
 pub record IsUnasked (ask : Asking) (called : Called) (reference : Reference) (lines : List Line)
-    (result : Result (Option Outcome) ObjectFault) (lines' : List Line) (tos : List Ends) : Type 0 where
+    (result : Result (Option Outcome) CallFault) (lines' : List Line) (tos : List Ends) : Type 0 where
   pub unasked : asked_in result ≡ None
   pub tried : IsTried (in_form forms.Key ask) called reference lines result lines' tos
 
 -- one was, and this is how the call in this form ended
 pub record IsInOtherForm (ask : Asking) (called : Called) (reference : Reference) (lines : List Line)
-    (result : Result (Option Outcome) ObjectFault) (lines' : List Line) (tos : List Ends) : Type 0 where
+    (result : Result (Option Outcome) CallFault) (lines' : List Line) (tos : List Ends) : Type 0 where
   pub mid : List Line
   pub first : List Ends
   pub second : List Ends
   pub tos_are : tos ≡ first ++ second
-  pub answered : Result (Option Outcome) ObjectFault
+  pub answered : Result (Option Outcome) CallFault
   pub form : Form
   pub asked : asked_in answered ≡ Some form
   pub tried : IsTried (in_form forms.Key ask) called reference lines answered mid first
   pub again : IsTried (in_form form ask) called reference mid result lines' second
 
-abbrev pub IsHeeded : Asking → Called → Reference → List Line → Result (Option Outcome) ObjectFault → List Line
+abbrev pub IsHeeded : Asking → Called → Reference → List Line → Result (Option Outcome) CallFault → List Line
     → List Ends → Type 0
 IsHeeded ask called reference lines result lines' tos =
     IsUnasked ask called reference lines result lines' tos ⊎ IsInOtherForm ask called reference lines result lines' tos
 
 -- By what is told before and after.
 pub record IsCalledHeeding (Told Told' : Telling) (ask : Asking) (called : Called) (reference : Reference)
-    (lines : List Line) (result : Result (Option Outcome) ObjectFault) (lines' : List Line) : Type 0 where
+    (lines : List Line) (result : Result (Option Outcome) CallFault) (lines' : List Line) : Type 0 where
   pub tos : List Ends
   pub gone : (all : List Ends) → Told all → Told' (all ++ tos)
   pub heeded : IsHeeded ask called reference lines result lines' tos

@@ -8,12 +8,11 @@ ghost use Rattle.object_calls.specs.Talks.{asking};
 ghost use Rattle.followed_calls.specs.Followed.{IsFollowed};
 ghost use Rattle.followed_calls.specs.Wanted.{called_of};
 
-use crate::fault::ObjectFault;
 use crate::heeded::call_heeding;
 use crate::wanted::Wanted;
 use call_texts::Outcome;
 use giop::{Body, Giop};
-use giop_client::Request;
+use giop_client::{CallFault, Request};
 use giop_types::GiopTypes;
 use object_calls::Dial;
 use object_references::Ior;
@@ -26,7 +25,7 @@ use std::alloc::Global;
 ///
 /// # Errors
 /// As `call_by` of object_calls says; `OtherBody` where the body of a reply isn't what its status
-/// says; `TooMany`; want of memory.
+/// says; `TooManyForwards`; want of memory.
 pub fn call_object<D: Dial>(
     giop: &Giop,
     types: &GiopTypes,
@@ -37,7 +36,7 @@ pub fn call_object<D: Dial>(
     request: &Request<'_>,
     body: Option<Body<'_>>,
     reads: u64,
-) -> Result<Option<Outcome>, ObjectFault>
+) -> Result<Option<Outcome>, CallFault>
     requires body { ForSome body (λ b. IsNamed b.0.now.model.names b.1) }
     requires named { IsNamed wanted.now.table.now.model.names wanted.now.reply }
     ensures { IsFollowed (D.went dial.old) (D.went dial.new) (asking request.now (given_by body.entry) reads)
@@ -56,13 +55,8 @@ pub fn call_object<D: Dial>(
         };
         match outcome {
             Outcome::Forwarded(next) => at = next,
-            Outcome::Returned(text) => return Ok(Some(Outcome::Returned(text))),
-            Outcome::Raised(text) => return Ok(Some(Outcome::Raised(text))),
-            Outcome::Failed(exception) => return Ok(Some(Outcome::Failed(exception))),
-            Outcome::Readdressed(disposition) => {
-                return Ok(Some(Outcome::Readdressed(disposition)));
-            }
+            ended => return Ok(Some(ended)),
         }
     }
-    Err(ObjectFault::TooMany)
+    Err(CallFault::TooManyForwards)
 }

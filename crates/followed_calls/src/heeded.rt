@@ -9,12 +9,11 @@ ghost use Rattle.object_calls.specs.Talks.{asking};
 ghost use Rattle.followed_calls.specs.Heeded.{IsCalledHeeding, asked_in, form_of as form_of_number};
 ghost use Rattle.followed_calls.specs.Wanted.{called_of};
 
-use crate::fault::ObjectFault;
 use crate::once::call_twice;
 use crate::wanted::Wanted;
 use call_texts::Outcome;
 use giop::{Body, Giop};
-use giop_client::Request;
+use giop_client::{CallFault, Request};
 use giop_types::GiopTypes;
 use object_calls::{Dial, Form};
 use object_references::Ior;
@@ -33,7 +32,7 @@ fn form_of(disposition: u16) -> Option<Form>
 }
 
 /// The form of address that an answer asks for.
-fn form_in(answered: &Result<Option<Outcome>, ObjectFault>) -> Option<Form>
+fn form_in(answered: &Result<Option<Outcome>, CallFault>) -> Option<Form>
     ensures { result ≡ asked_in answered.now }
 {
     match answered {
@@ -54,7 +53,7 @@ pub(crate) fn call_heeding<D: Dial>(
     request: &Request<'_>,
     body: Option<Body<'_>>,
     reads: u64,
-) -> Result<Option<Outcome>, ObjectFault>
+) -> Result<Option<Outcome>, CallFault>
     requires body { ForSome body (λ b. IsNamed b.0.now.model.names b.1) }
     requires named { IsNamed wanted.now.table.now.model.names wanted.now.reply }
     ensures { IsCalledHeeding (D.went dial.old) (D.went dial.new) (asking request.now (given_by body.entry) reads)

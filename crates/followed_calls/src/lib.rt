@@ -1,12 +1,10 @@
 //! Calls of objects, followed to where the objects are.
 #![tactic(auto)]
 
-mod fault;
 mod followed;
 mod heeded;
 mod once;
 mod wanted;
 
-pub use fault::ObjectFault;
 pub use followed::call_object;
 pub use wanted::Wanted;

@@ -8,16 +8,15 @@ ghost use Rattle.giop_client.specs.Answers.{answer_of};
 ghost use Rattle.object_references.specs.References.{reference_of};
 ghost use Rattle.object_calls.specs.Talks.{asking};
 ghost use Rattle.followed_calls.specs.Hops.{IsCalledOnce, IsOutcomeIn, in_form};
-ghost use Rattle.followed_calls.specs.Tries.{IsCalledTwice, closes, closes_call, closes_reached};
+ghost use Rattle.followed_calls.specs.Tries.{IsCalledTwice, closes};
 ghost use Rattle.followed_calls.specs.Wanted.{called_of};
 
-use crate::fault::ObjectFault;
 use crate::wanted::Wanted;
 use call_texts::{Outcome, read_outcome};
 use giop::{Body, Giop, Reply};
-use giop_client::{Answer, AwaitFault, CallFault, Request};
+use giop_client::{Answer, CallFault, Request};
 use giop_types::GiopTypes;
-use object_calls::{Dial, Form, ReachFault, call_by};
+use object_calls::{Dial, Form, call_by};
 use object_references::Ior;
 use reference_listing::list_reference;
 use std::alloc::Global;
@@ -28,7 +27,7 @@ fn outcome_of(
     alloc: Global,
     wanted: &Wanted<'_>,
     answer: &Answer,
-) -> Result<Option<Outcome>, ObjectFault>
+) -> Result<Option<Outcome>, CallFault>
     requires { IsNamed wanted.now.table.now.model.names wanted.now.reply }
     ensures { IsOutcomeIn (called_of wanted.now) (answer_of answer.now) result }
 {
@@ -50,8 +49,8 @@ fn outcome_of(
         &reply,
     ) {
         Ok(Some(outcome)) => Ok(Some(outcome)),
-        Ok(None) => Err(ObjectFault::OtherBody),
-        Err(_) => Err(ObjectFault::NoMemory),
+        Ok(None) => Err(CallFault::OtherBody),
+        Err(_) => Err(CallFault::NoMemory),
     }
 }
 
@@ -67,7 +66,7 @@ fn call_once<D: Dial>(
     request: &Request<'_>,
     body: Option<Body<'_>>,
     reads: u64,
-) -> Result<Option<Outcome>, ObjectFault>
+) -> Result<Option<Outcome>, CallFault>
     requires body { ForSome body (λ b. IsNamed b.0.now.model.names b.1) }
     requires named { IsNamed wanted.now.table.now.model.names wanted.now.reply }
     ensures { IsCalledOnce (D.went dial.old) (D.went dial.new)
@@ -76,7 +75,7 @@ fn call_once<D: Dial>(
 {
     let listing = match list_reference(types, alloc, ior) {
         Ok(listing) => listing,
-        Err(_) => return Err(ObjectFault::NoMemory),
+        Err(_) => return Err(CallFault::NoMemory),
     };
     let called = match call_by(
         giop,
@@ -90,7 +89,7 @@ fn call_once<D: Dial>(
         reads,
     ) {
         Ok(called) => called,
-        Err(fault) => return Err(ObjectFault::Unanswered(fault)),
+        Err(fault) => return Err(fault),
     };
     match called {
         Some(answer) => outcome_of(types, alloc, wanted, &answer),
@@ -98,39 +97,13 @@ fn call_once<D: Dial>(
     }
 }
 
-/// Whether a stream ended by CloseConnection.
-fn is_closing(fault: AwaitFault) -> bool
-    ensures { result ≡ closes fault }
-{
-    match fault {
-        AwaitFault::CloseConnection => true,
-        AwaitFault::BadMessage(_)
-        | AwaitFault::BadReply
-        | AwaitFault::MessageError
-        | AwaitFault::ReadFailed
-        | AwaitFault::EndOfStream
-        | AwaitFault::ReadLimit
-        | AwaitFault::NoMemory => false,
-    }
-}
-
-/// Whether a call ended so.
-fn is_closed_in(fault: CallFault) -> bool
-    ensures { result ≡ closes_call fault }
-{
-    match fault {
-        CallFault::Unsent(_) => false,
-        CallFault::Unanswered(fault) => is_closing(fault),
-    }
-}
-
 /// Whether the server closed the connection by CloseConnection before it answered.
-fn is_closed(fault: ReachFault) -> bool
-    ensures { result ≡ closes_reached fault }
+fn is_closed(called: &Result<Option<Outcome>, CallFault>) -> bool
+    ensures { result ≡ closes called.now }
 {
-    match fault {
-        ReachFault::NotCalled(fault) => is_closed_in(fault),
-        ReachFault::NotReached | ReachFault::NotNamed | ReachFault::NoMemory => false,
+    match called {
+        Err(CallFault::CloseConnection) => true,
+        _ => false,
     }
 }
 
@@ -147,27 +120,20 @@ pub(crate) fn call_twice<D: Dial>(
     request: &Request<'_>,
     body: Option<Body<'_>>,
     reads: u64,
-) -> Result<Option<Outcome>, ObjectFault>
+) -> Result<Option<Outcome>, CallFault>
     requires body { ForSome body (λ b. IsNamed b.0.now.model.names b.1) }
     requires named { IsNamed wanted.now.table.now.model.names wanted.now.reply }
     ensures { IsCalledTwice (D.went dial.old) (D.went dial.new)
         (in_form form (asking request.now (given_by body.entry) reads)) (called_of wanted.now)
         (reference_of ior.now) (D.lines dial.old) result (D.lines dial.new) }
 {
-    match call_once(
+    let called = call_once(
         giop, types, alloc, dial, ior, form, wanted, request, body, reads,
-    ) {
-        Ok(outcome) => Ok(outcome),
-        Err(ObjectFault::Unanswered(fault)) => {
-            if is_closed(fault) {
-                return call_once(
-                    giop, types, alloc, dial, ior, form, wanted, request, body, reads,
-                );
-            }
-            Err(ObjectFault::Unanswered(fault))
-        }
-        Err(ObjectFault::OtherBody) => Err(ObjectFault::OtherBody),
-        Err(ObjectFault::TooMany) => Err(ObjectFault::TooMany),
-        Err(ObjectFault::NoMemory) => Err(ObjectFault::NoMemory),
+    );
+    if is_closed(&called) {
+        return call_once(
+            giop, types, alloc, dial, ior, form, wanted, request, body, reads,
+        );
     }
+    called
 }

@@ -12,8 +12,8 @@ use Rattle.reply_streams.specs.Room.{wanted}
 use Rattle.reply_streams.proofs.Hearing.{in_pieces}
 use Rattle.reply_streams.proofs.Waiting.{SaysNothing, still_waits, waited_before}
 use Rattle.giop_client.specs.declared.answer.Answer.{Answer}
-use Rattle.giop_client.specs.declared.fault.AwaitFault.{AwaitFault}
-use Rattle.giop_client.specs.declared.fault.AwaitFault.TheVariants as faults
+use Rattle.giop_client.specs.declared.fault.CallFault.{CallFault}
+use Rattle.giop_client.specs.declared.fault.CallFault.TheVariants as faults
 use Rattle.giop_client.specs.Answers.{IsAnswered, IsUnreadable, answer_of}
 use Rattle.giop_client.specs.Outcomes.{AreRead, IsBrought, IsGivenUp, IsOutcome, IsUnanswered}
 use Rattle.giop_client.specs.inner.Replies.{IsAnswerIn}
@@ -182,16 +182,11 @@ unreadable id before after piece message count r none =
 
 -- what the reply that came says
 pub outcome_in : (id reads : ℕ) (before after : Option (List ℕ)) (piece message : List ℕ) (count : ℕ)
-    (result : Result Answer AwaitFault) (failure : Bool) → ReadOn id before piece count (Replies message) after
+    (result : Result Answer CallFault) (failure : Bool) → ReadOn id before piece count (Replies message) after
     → IsAnswerIn id message result → IsOutcome id reads before result after failure
 outcome_in id reads before after piece message count (Ok answer) failure r is =
     answered id before after piece message count (answer_of answer) r is.0 is.1
-outcome_in id reads before after piece message count (Err (faults.BadMessage fault)) failure r is = absurd is
 outcome_in id reads before after piece message count (Err faults.BadReply) failure r is =
     unreadable id before after piece message count r is
-outcome_in id reads before after piece message count (Err faults.MessageError) failure r is = absurd is
-outcome_in id reads before after piece message count (Err faults.CloseConnection) failure r is = absurd is
-outcome_in id reads before after piece message count (Err faults.ReadFailed) failure r is = absurd is
-outcome_in id reads before after piece message count (Err faults.EndOfStream) failure r is = absurd is
-outcome_in id reads before after piece message count (Err faults.ReadLimit) failure r is = absurd is
 outcome_in id reads before after piece message count (Err faults.NoMemory) failure r is = tt
+outcome_in id reads before after piece message count (Err fault) failure r is = absurd is

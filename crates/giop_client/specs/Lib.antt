@@ -1,4 +1,5 @@
 pub mod Answers
+pub mod Causes
 pub mod Outcomes
 pub mod Requests
 pub mod Calls

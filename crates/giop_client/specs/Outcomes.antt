@@ -3,8 +3,8 @@ use Rattle.std.specs.Prelude.{◌≡◌, ◌<◌, ◌≤◌, ℕ, Bool, true, Li
 use Rattle.iiop_broker.specs.Ends.{Gives, IsEmpty}
 use Rattle.reply_streams.specs.Heard.{Breaks, Ends, Refuses, Waits, heard}
 use Rattle.giop_client.specs.declared.answer.Answer.{Answer}
-use Rattle.giop_client.specs.declared.fault.AwaitFault.{AwaitFault}
-use Rattle.giop_client.specs.declared.fault.AwaitFault.TheVariants as faults
+use Rattle.giop_client.specs.declared.fault.CallFault.{CallFault}
+use Rattle.giop_client.specs.declared.fault.CallFault.TheVariants as faults
 use Rattle.giop_client.specs.Answers.{IsAnswered, IsUnreadable, answer_of}
 
 -- these octets were read, of which this holds
@@ -30,7 +30,7 @@ pub record IsGivenUp (id : ℕ) (cause : Type 0) (octets : List ℕ) : Type 0 wh
   pub cause_is : cause
 
 -- By what the reader tells before and after: the octets that are left, and whether a read has failed.
-abbrev pub IsOutcome : ℕ → ℕ → Option (List ℕ) → Result Answer AwaitFault → Option (List ℕ) → Bool → Type 0
+abbrev pub IsOutcome : ℕ → ℕ → Option (List ℕ) → Result Answer CallFault → Option (List ℕ) → Bool → Type 0
 IsOutcome id reads before (Ok answer) after failure =
     AreRead before (IsBrought id (λ octets. IsAnswered id octets (answer_of answer))) after
 IsOutcome id reads before (Err (faults.BadMessage fault)) after failure =
@@ -47,3 +47,4 @@ IsOutcome id reads before (Err faults.EndOfStream) after failure =
 IsOutcome id reads before (Err faults.ReadLimit) after failure =
     AreRead before (λ octets. IsUnanswered id octets × (reads ≤ length octets)) after
 IsOutcome id reads before (Err faults.NoMemory) after failure = Unit {0}
+IsOutcome id reads before (Err fault) after failure = ⊥

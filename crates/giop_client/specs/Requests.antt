@@ -11,8 +11,8 @@ use Rattle.giop.specs.Addresses.{target_tree}
 use Rattle.giop.specs.Refusal.{IsNotWritten}
 use Rattle.iiop_broker.specs.Ends.{Adds, IsUnsent}
 use Rattle.giop_client.specs.declared.request.Request.{Request}
-use Rattle.giop_client.specs.declared.fault.SendFault.{SendFault}
-use Rattle.giop_client.specs.declared.fault.SendFault.TheVariants as faults
+use Rattle.giop_client.specs.declared.fault.CallFault.{CallFault}
+use Rattle.giop_client.specs.declared.fault.CallFault.TheVariants as faults
 
 -- the header of the request: its fields, the object as it is named, and no service contexts
 abbrev pub header_of : Request → Tree
@@ -44,10 +44,11 @@ pub record Unsent (request : Request) (body : Option Given) (sent : ℕ) (before
   pub unsent : IsUnsent before octets sent after failure
 
 -- By what the writer tells before and after: the octets that are written, and whether a write has failed.
-abbrev pub IsSending : Request → Option Given → Option (List ℕ) → Result (Unit {0}) SendFault → Option (List ℕ) → Bool
+abbrev pub IsSending : Request → Option Given → Option (List ℕ) → Result (Unit {0}) CallFault → Option (List ℕ) → Bool
     → Type 0
 IsSending request body before (Ok done) after failure = Sent request body before after
 IsSending request body before (Err (faults.NotARequest fault)) after failure =
     IsNoRequest request body fault × (after ≡ before)
 IsSending request body before (Err (faults.WriteFailed sent)) after failure =
     Unsent request body sent before after failure
+IsSending request body before (Err fault) after failure = ⊥

@@ -4,7 +4,7 @@ ghost use Rattle.giop_client.specs.Outcomes.{IsOutcome};
 ghost use Rattle.giop_client.specs.inner.Replies.{IsAnswerIn};
 
 use crate::answer::{Answer, read_answer};
-use crate::fault::AwaitFault;
+use crate::fault::CallFault;
 use giop::Giop;
 use iiop_broker::{Input, read_within};
 use reply_streams::{Heard, ReplyStream, SentReply};
@@ -14,13 +14,13 @@ use std::alloc::Global;
 const BUFFER_LEN: usize = 4096;
 
 /// The answer that a reply says.
-fn answer_in(giop: &Giop, alloc: Global, id: u32, reply: &SentReply) -> Result<Answer, AwaitFault>
+fn answer_in(giop: &Giop, alloc: Global, id: u32, reply: &SentReply) -> Result<Answer, CallFault>
     ensures { IsAnswerIn id reply.now result }
 {
     match read_answer(giop, alloc, id, reply) {
         Ok(Some(answer)) => Ok(answer),
-        Ok(None) => Err(AwaitFault::BadReply),
-        Err(_) => Err(AwaitFault::NoMemory),
+        Ok(None) => Err(CallFault::BadReply),
+        Err(_) => Err(CallFault::NoMemory),
     }
 }
 
@@ -38,7 +38,7 @@ pub fn await_reply<I: Input>(
     id: u32,
     reader: &mut I,
     reads: u64,
-) -> Result<Answer, AwaitFault>
+) -> Result<Answer, CallFault>
     ensures { IsOutcome id reads (I.left reader.old) result (I.left reader.new) (I.failure reader.new) }
 {
     let mut buffer = [0u8; BUFFER_LEN];
@@ -47,19 +47,19 @@ pub fn await_reply<I: Input>(
     while count < reads {
         let room = stream.wanted().clamp(1, BUFFER_LEN);
         let n = match read_within(reader, &mut buffer, room) {
-            Ok(0) => return Err(AwaitFault::EndOfStream),
+            Ok(0) => return Err(CallFault::EndOfStream),
             Ok(n) => n,
-            Err(_) => return Err(AwaitFault::ReadFailed),
+            Err(_) => return Err(CallFault::ReadFailed),
         };
         match stream.hear(alloc, id, buffer.as_slice().split_at(n).0) {
             Ok(Heard::Waits(more)) => stream = more,
             Ok(Heard::Replies(reply)) => return answer_in(giop, alloc, id, &reply),
-            Ok(Heard::Breaks(fault)) => return Err(AwaitFault::BadMessage(fault)),
-            Ok(Heard::Ends) => return Err(AwaitFault::CloseConnection),
-            Ok(Heard::Refuses) => return Err(AwaitFault::MessageError),
-            Err(_) => return Err(AwaitFault::NoMemory),
+            Ok(Heard::Breaks(fault)) => return Err(CallFault::BadMessage(fault)),
+            Ok(Heard::Ends) => return Err(CallFault::CloseConnection),
+            Ok(Heard::Refuses) => return Err(CallFault::MessageError),
+            Err(_) => return Err(CallFault::NoMemory),
         }
         count += 1;
     }
-    Err(AwaitFault::ReadLimit)
+    Err(CallFault::ReadLimit)
 }

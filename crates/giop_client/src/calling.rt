@@ -18,7 +18,7 @@ use std::alloc::Global;
 /// is wanted (flags 0), nothing is read, and there is none.
 ///
 /// # Errors
-/// `Unsent` as `send_request` says, `Unanswered` as `await_reply`.
+/// As `send_request` and `await_reply` say.
 pub fn call<I: Input, O: Output>(
     giop: &Giop,
     alloc: Global,
@@ -33,15 +33,12 @@ pub fn call<I: Input, O: Output>(
         (ends (I.left reader.old) (O.written writer.old) (I.failure reader.old) (O.failure writer.old)) result
         (ends (I.left reader.new) (O.written writer.new) (I.failure reader.new) (O.failure writer.new)) }
 {
-    match send_request(giop, alloc, writer, request, body) {
-        Ok(()) => (),
-        Err(fault) => return Err(CallFault::Unsent(fault)),
-    }
+    send_request(giop, alloc, writer, request, body)?;
     if request.flags == 0 {
         return Ok(None);
     }
     match await_reply(giop, alloc, request.id, reader, reads) {
         Ok(answer) => Ok(Some(answer)),
-        Err(fault) => Err(CallFault::Unanswered(fault)),
+        Err(fault) => Err(fault),
     }
 }

@@ -12,5 +12,5 @@ mod request;
 pub use answer::Answer;
 pub use awaiting::await_reply;
 pub use calling::call;
-pub use fault::{AwaitFault, CallFault, SendFault};
+pub use fault::{CallFault, Cause};
 pub use request::{Request, send_request};

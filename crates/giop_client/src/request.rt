@@ -5,7 +5,7 @@ ghost use Rattle.type_model.specs.Names.{IsNamed};
 ghost use Rattle.giop.specs.Made.{given_by};
 ghost use Rattle.giop_client.specs.Requests.{IsSending};
 
-use crate::fault::SendFault;
+use crate::fault::CallFault;
 use giop::{Addressed, Body, Giop};
 use iiop_broker::{Output, send};
 use std::alloc::Global;
@@ -37,7 +37,7 @@ pub fn send_request<O: Output>(
     writer: &mut O,
     request: &Request<'_>,
     body: Option<Body<'_>>,
-) -> Result<(), SendFault>
+) -> Result<(), CallFault>
     requires { ForSome body (λ b. IsNamed b.0.now.model.names b.1) }
     ensures { IsSending request.now (given_by body.entry) (O.written writer.old) result (O.written writer.new)
         (O.failure writer.new) }
@@ -52,10 +52,10 @@ pub fn send_request<O: Output>(
         body,
     ) {
         Ok(octets) => octets,
-        Err(fault) => return Err(SendFault::NotARequest(fault)),
+        Err(fault) => return Err(CallFault::NotARequest(fault)),
     };
     match send(writer, octets.as_slice()) {
         Ok(()) => Ok(()),
-        Err(sent) => Err(SendFault::WriteFailed { sent }),
+        Err(sent) => Err(CallFault::WriteFailed { sent }),
     }
 }

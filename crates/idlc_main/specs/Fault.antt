@@ -8,8 +8,8 @@ use Rattle.table_commands.specs.declared.refusal.Refusal.{Refusal}
 use Rattle.table_commands.specs.declared.refusal.Refusal.TheVariants as refusals
 use Rattle.call_commands.specs.Causes.{cause_of}
 use Rattle.call_commands.specs.declared.fault.CallRefusal.{CallRefusal}
-use Rattle.call_commands.specs.declared.fault.Cause.{Cause}
-use Rattle.call_commands.specs.declared.fault.Cause.TheVariants as causes
+use Rattle.giop_client.specs.declared.fault.Cause.{Cause}
+use Rattle.giop_client.specs.declared.fault.Cause.TheVariants as causes
 use Rattle.spelled_references.specs.declared.fault.SpellingFault.{SpellingFault}
 use Rattle.spelled_references.specs.declared.fault.SpellingFault.TheVariants as spellings
 use Rattle.socket_server.specs.declared.fault.ServeFault.{ServeFault}

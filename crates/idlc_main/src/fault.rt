@@ -4,8 +4,9 @@ ghost use Rattle.std.specs.Prelude.{◌≡◌, ◌≤◌};
 ghost use Rattle.idlc_main.specs.Fault.{fault_of_named, fault_of_service, fault_of_source, fault_of_words, fault_of_call, status_of_refusal, status_of_spelling};
 ghost use Rattle.idlc_main.specs.declared.fault.Fault.TheVariants.{NoMemory, NotSpelled, Refused};
 
-use call_commands::{CallRefusal, Cause};
+use call_commands::CallRefusal;
 use command_words::Mistake;
+use giop_client::Cause;
 use idl_compiler::CompileRefusal;
 use message_dumps::DumpFault;
 use named_tables::NamedFault;

@@ -1,5 +1,5 @@
 -- A call of an object at a port of a host, and of one that a reference names.
-use Rattle.std.specs.Prelude.{◌≡◌, ℕ, List, [], ◌∷◌, ◌++◌, length, Option, Result, Ok, Err}
+use Rattle.std.specs.Prelude.{◌≡◌, ◌⊎◌, ℕ, List, [], ◌∷◌, ◌++◌, length, Option, Result, Ok, Err}
 use Rattle.type_graph.specs.Value.{Tree}
 use Rattle.giop.specs.Addresses.{target_tree}
 use Rattle.giop_messages.specs.Written.{Given}
@@ -8,11 +8,10 @@ use Rattle.giop_client.specs.Calls.{IsCalled}
 use Rattle.giop_client.specs.declared.answer.Answer.{Answer}
 use Rattle.giop_client.specs.declared.request.Request.{Request}
 use Rattle.giop_client.specs.declared.fault.CallFault.{CallFault}
+use Rattle.giop_client.specs.declared.fault.CallFault.TheVariants.{NeedsAddressingMode, NoMemory, NotReached}
 use Rattle.reference_listing.specs.Listings.{Iiop, Row, OfIiop}
 use Rattle.object_calls.specs.Forms.{IsTarget, Naming}
 use Rattle.object_calls.specs.Lines.{Line, all_missed, made, missed}
-use Rattle.object_calls.specs.declared.fault.ReachFault.{ReachFault}
-use Rattle.object_calls.specs.declared.fault.ReachFault.TheVariants.{NotReached, NotNamed, NotCalled, NoMemory}
 
 -- which lists of what connections told that were handed back may be those so far
 abbrev pub Telling : Type 1
@@ -42,16 +41,20 @@ pub record IsUnreached (Told Told' : Telling) (vain : List Line) (lines lines' :
   pub lines_are : lines' ≡ lines ++ vain
   pub gone : (all : List Ends) → Told all → Told' all
 
+-- A fault before the call: no connection can be made, and these were dialled in vain; or memory was wanted for one, and
+-- some were. Each other fault is one of the call.
+abbrev pub IsBefore : Telling → Telling → CallFault → List Line → List Line → List Line → List Line → Type 0
+IsBefore Told Told' NotReached all some lines lines' = IsUnreached Told Told' all lines lines'
+IsBefore Told Told' NoMemory all some lines lines' = IsUnreached Told Told' some lines lines'
+IsBefore Told Told' fault all some lines lines' = ⊥
+
 -- By what is told of the lines and of the connections that were handed back, before and after.
-abbrev pub IsCalledAt : Telling → Telling → Asking → List ℕ → ℕ → List Line → Result (Option Answer) ReachFault
+abbrev pub IsCalledAt : Telling → Telling → Asking → List ℕ → ℕ → List Line → Result (Option Answer) CallFault
     → List Line → Type 0
 IsCalledAt Told Told' ask host port lines (Ok answer) lines' = IsTalk Told Told' ask host port lines (Ok answer) lines'
-IsCalledAt Told Told' ask host port lines (Err NotReached) lines' =
-    IsUnreached Told Told' (missed host port ∷ []) lines lines'
-IsCalledAt Told Told' ask host port lines (Err (NotCalled fault)) lines' =
-    IsTalk Told Told' ask host port lines (Err fault) lines'
-IsCalledAt Told Told' ask host port lines (Err NotNamed) lines' = ⊥
-IsCalledAt Told Told' ask host port lines (Err NoMemory) lines' = IsUnreached Told Told' [] lines lines'
+IsCalledAt Told Told' ask host port lines (Err fault) lines' =
+    IsBefore Told Told' fault (missed host port ∷ []) [] lines lines'
+    ⊎ IsTalk Told Told' ask host port lines (Err fault) lines'
 
 -- ---- by a reference
 
@@ -71,21 +74,20 @@ pub record IsTalkTo (Told Told' : Telling) (ask : Asking) (Target : Tree → Typ
   pub talk : IsTalk Told Told' (asking request ask.body ask.reads) iiop.body.host iiop.body.port lines result lines'
 
 -- no target is so, and it wasn't dialled
-pub record IsUnnamed (Told Told' : Telling) (Target : Tree → Type 0) (vain : List Line) (lines lines' : List Line)
-    : Type 0 where
+pub record IsUnnamed (Told Told' : Telling) (Target : Tree → Type 0) (vain : List Line) (fault : CallFault)
+    (lines lines' : List Line) : Type 0 where
+  pub fault_is : fault ≡ NeedsAddressingMode
   pub none : (target : Tree) → Target target → ⊥
   pub unreached : IsUnreached Told Told' vain lines lines'
 
 abbrev pub IsCalledTo : Telling → Telling → Asking → (Tree → Type 0) → Iiop → List Line
-    → Result (Option Answer) ReachFault → List Line → Type 0
+    → Result (Option Answer) CallFault → List Line → Type 0
 IsCalledTo Told Told' ask Target iiop lines (Ok answer) lines' =
     IsTalkTo Told Told' ask Target iiop lines (Ok answer) lines'
-IsCalledTo Told Told' ask Target iiop lines (Err NotReached) lines' =
-    IsUnreached Told Told' (missed iiop.body.host iiop.body.port ∷ []) lines lines'
-IsCalledTo Told Told' ask Target iiop lines (Err NotNamed) lines' = IsUnnamed Told Told' Target [] lines lines'
-IsCalledTo Told Told' ask Target iiop lines (Err (NotCalled fault)) lines' =
-    IsTalkTo Told Told' ask Target iiop lines (Err fault) lines'
-IsCalledTo Told Told' ask Target iiop lines (Err NoMemory) lines' = IsUnreached Told Told' [] lines lines'
+IsCalledTo Told Told' ask Target iiop lines (Err fault) lines' =
+    IsBefore Told Told' fault (missed iiop.body.host iiop.body.port ∷ []) [] lines lines'
+    ⊎ IsUnnamed Told Told' Target [] fault lines lines'
+    ⊎ IsTalkTo Told Told' ask Target iiop lines (Err fault) lines'
 
 -- it was so by the first profile of IIOP whose host and port could be reached, whose object the target names
 pub record IsTalkBy (Told Told' : Telling) (ask : Asking) (naming : Naming) (rows : List Row) (lines : List Line)
@@ -98,26 +100,25 @@ pub record IsTalkBy (Told Told' : Telling) (ask : Asking) (naming : Naming) (row
       lines'
 
 -- those before a profile were dialled in vain, and no target names the object of this one
-pub record IsUnnamedBy (Told Told' : Telling) (naming : Naming) (rows : List Row) (lines lines' : List Line)
-    : Type 0 where
+pub record IsUnnamedBy (Told Told' : Telling) (naming : Naming) (rows : List Row) (fault : CallFault)
+    (lines lines' : List Line) : Type 0 where
   pub before : List Row
   pub iiop : Iiop
   pub behind : List Row
   pub rows_are : rows ≡ before ++ OfIiop iiop ∷ behind
-  pub unnamed : IsUnnamed Told Told' (IsTarget naming (length before) iiop) (all_missed before) lines lines'
+  pub unnamed : IsUnnamed Told Told' (IsTarget naming (length before) iiop) (all_missed before) fault lines lines'
 
--- memory was wanted, and no call was made
-pub record IsGivenUp (Told Told' : Telling) (lines lines' : List Line) : Type 0 where
-  pub vain : List Line
-  pub unreached : IsUnreached Told Told' vain lines lines'
+-- no call was made
+pub record IsGivenUp (Told Told' : Telling) (rows : List Row) (fault : CallFault) (lines lines' : List Line)
+    : Type 0 where
+  pub some : List Line
+  pub before : IsBefore Told Told' fault (all_missed rows) some lines lines'
 
-abbrev pub IsCalledBy : Telling → Telling → Asking → Naming → List Row → List Line → Result (Option Answer) ReachFault
+abbrev pub IsCalledBy : Telling → Telling → Asking → Naming → List Row → List Line → Result (Option Answer) CallFault
     → List Line → Type 0
 IsCalledBy Told Told' ask naming rows lines (Ok answer) lines' =
     IsTalkBy Told Told' ask naming rows lines (Ok answer) lines'
-IsCalledBy Told Told' ask naming rows lines (Err NotReached) lines' =
-    IsUnreached Told Told' (all_missed rows) lines lines'
-IsCalledBy Told Told' ask naming rows lines (Err NotNamed) lines' = IsUnnamedBy Told Told' naming rows lines lines'
-IsCalledBy Told Told' ask naming rows lines (Err (NotCalled fault)) lines' =
-    IsTalkBy Told Told' ask naming rows lines (Err fault) lines'
-IsCalledBy Told Told' ask naming rows lines (Err NoMemory) lines' = IsGivenUp Told Told' lines lines'
+IsCalledBy Told Told' ask naming rows lines (Err fault) lines' =
+    IsGivenUp Told Told' rows fault lines lines'
+    ⊎ IsUnnamedBy Told Told' naming rows fault lines lines'
+    ⊎ IsTalkBy Told Told' ask naming rows lines (Err fault) lines'

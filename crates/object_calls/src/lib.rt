@@ -3,12 +3,10 @@
 
 mod calling;
 mod dial;
-mod fault;
 mod form;
 mod reached;
 
 pub use calling::call_at;
 pub use dial::{Dial, DialFault};
-pub use fault::ReachFault;
 pub use form::Form;
 pub use reached::call_by;

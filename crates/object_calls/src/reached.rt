@@ -13,10 +13,9 @@ ghost use Rattle.object_calls.specs.Talks.{IsCalledBy, IsCalledTo, asking};
 
 use crate::calling::call_at;
 use crate::dial::Dial;
-use crate::fault::ReachFault;
 use crate::form::Form;
 use giop::{Addressed, Body, Giop, Ior, Tagged};
-use giop_client::{Answer, Request};
+use giop_client::{Answer, CallFault, Request};
 use reference_listing::{IiopProfile, ListedProfile};
 use std::alloc::Global;
 
@@ -75,14 +74,14 @@ fn call_to<D: Dial>(
     request: &Request<'_>,
     body: Option<Body<'_>>,
     reads: u64,
-) -> Result<Option<Answer>, ReachFault>
+) -> Result<Option<Answer>, CallFault>
     requires { ForSome body (λ b. IsNamed b.0.now.model.names b.1) }
     ensures { IsCalledTo (D.went dial.old) (D.went dial.new) (asking request.now (given_by body.entry) reads)
         (IsTarget (naming form (reference_of ior.now)) place (iiop_of profile.now)) (iiop_of profile.now)
         (D.lines dial.old) result (D.lines dial.new) }
 {
     let Some(target) = target_in(form, ior, place, profile) else {
-        return Err(ReachFault::NotNamed);
+        return Err(CallFault::NeedsAddressingMode);
     };
     let to_object = Request {
         order: request.order,
@@ -110,8 +109,8 @@ fn call_to<D: Dial>(
 /// the form of keys they alone count.
 ///
 /// # Errors
-/// `NotReached` where none can be; `NotNamed` where the form is that of profiles, and the reference has
-/// none at the place; want of memory; else as `call` of giop_client says.
+/// `NotReached` where none can be; `NeedsAddressingMode` where the form is that of profiles, and the
+/// reference has none at the place; want of memory; else as `call` of giop_client says.
 pub fn call_by<D: Dial>(
     giop: &Giop,
     alloc: Global,
@@ -122,7 +121,7 @@ pub fn call_by<D: Dial>(
     request: &Request<'_>,
     body: Option<Body<'_>>,
     reads: u64,
-) -> Result<Option<Answer>, ReachFault>
+) -> Result<Option<Answer>, CallFault>
     requires { ForSome body (λ b. IsNamed b.0.now.model.names b.1) }
     ensures { IsCalledBy (D.went dial.old) (D.went dial.new) (asking request.now (given_by body.entry) reads)
         (naming form (reference_of ior.now)) (rows_of profiles.now) (D.lines dial.old) result (D.lines dial.new) }
@@ -135,15 +134,13 @@ pub fn call_by<D: Dial>(
                     giop, alloc, dial, ior, place, profile, form, request, body, reads,
                 ) {
                     Ok(answer) => return Ok(answer),
-                    Err(ReachFault::NotReached) => (),
-                    Err(ReachFault::NotNamed) => return Err(ReachFault::NotNamed),
-                    Err(ReachFault::NotCalled(fault)) => return Err(ReachFault::NotCalled(fault)),
-                    Err(ReachFault::NoMemory) => return Err(ReachFault::NoMemory),
+                    Err(CallFault::NotReached) => (),
+                    Err(fault) => return Err(fault),
                 }
             }
             ListedProfile::Other { .. } => (),
         }
         place += 1;
     }
-    Err(ReachFault::NotReached)
+    Err(CallFault::NotReached)
 }

@@ -3,44 +3,29 @@ use Rattle.giop.specs.Made.{given_by}
 use Rattle.object_references.specs.References.{reference_of}
 use Rattle.object_calls.specs.Forms.{naming}
 use Rattle.object_calls.specs.Talks.{asking}
-use Rattle.object_calls.proofs.ByRows.{given_up, missed_one, passed, talked, unnamed}
+use Rattle.object_calls.proofs.ByRows.{called, missed_one, passed}
 use Rattle.object_calls.proofs.reached.call_by.Goals as goal
 use Rattle.object_calls.proofs.reached.call_by.Goals.{in-Iiop+in-Err-NotReached, in-Other}
 
 pub returns-in-Ok : goal.returns-in-Ok
 returns-in-Ok g c =
-    talked (g.D.Dial.went c.args.dial.now) (g.D.Dial.went c.loop-listed.dial) (g.D.Dial.went c.call_to.new.dial)
-    c.args.profiles.now c.loop-listed.listed-index c.listed-item.result (search rules) c.listed-item.is
-    (g.D.Dial.lines c.args.dial.now) (g.D.Dial.lines c.loop-listed.dial) (g.D.Dial.lines c.call_to.new.dial)
-    c.loop-listed.invariant.vain
-    (asking c.args.request.now (given_by c.args.body) c.args.reads)
-    (naming c.args.form (reference_of c.args.ior.now)) c.loop-listed.place c.loop-listed.invariant.place c.in-Iiop.profile c.in-Iiop.is (Ok c.in-Ok.answer) c.in-Ok.ensures
-
-pub returns-in-Err-NotNamed : goal.returns-in-Err-NotNamed
-returns-in-Err-NotNamed g c =
-    unnamed (g.D.Dial.went c.args.dial.now) (g.D.Dial.went c.loop-listed.dial) (g.D.Dial.went c.call_to.new.dial)
-    c.args.profiles.now c.loop-listed.listed-index c.listed-item.result (search rules) c.listed-item.is
-    (g.D.Dial.lines c.args.dial.now) (g.D.Dial.lines c.loop-listed.dial) (g.D.Dial.lines c.call_to.new.dial)
-    c.loop-listed.invariant.vain
-    (naming c.args.form (reference_of c.args.ior.now)) c.loop-listed.place c.loop-listed.invariant.place c.in-Iiop.profile c.in-Iiop.is
-    (rw c.in-Err-NotNamed.field-0-is at c.in-Err-NotNamed.ensures)
-
-pub returns-in-Err-NotCalled : goal.returns-in-Err-NotCalled
-returns-in-Err-NotCalled g c =
-    talked (g.D.Dial.went c.args.dial.now) (g.D.Dial.went c.loop-listed.dial) (g.D.Dial.went c.call_to.new.dial)
+    called (g.D.Dial.went c.args.dial.now) (g.D.Dial.went c.loop-listed.dial) (g.D.Dial.went c.call_to.new.dial)
     c.args.profiles.now c.loop-listed.listed-index c.listed-item.result (search rules) c.listed-item.is
     (g.D.Dial.lines c.args.dial.now) (g.D.Dial.lines c.loop-listed.dial) (g.D.Dial.lines c.call_to.new.dial)
     c.loop-listed.invariant.vain
     (asking c.args.request.now (given_by c.args.body) c.args.reads)
     (naming c.args.form (reference_of c.args.ior.now)) c.loop-listed.place c.loop-listed.invariant.place c.in-Iiop.profile c.in-Iiop.is
-    (Err c.in-Err-NotCalled.fault) (rw c.in-Err-NotCalled.field-0-is at c.in-Err-NotCalled.ensures)
+    (Ok c.in-Ok.answer) (λ e. cc) c.in-Ok.ensures
 
-pub returns-in-Err-NoMemory : goal.returns-in-Err-NoMemory
-returns-in-Err-NoMemory g c =
-    given_up (g.D.Dial.went c.args.dial.now) (g.D.Dial.went c.loop-listed.dial) (g.D.Dial.went c.call_to.new.dial)
+pub returns-in-Err : goal.returns-in-Err
+returns-in-Err g c =
+    called (g.D.Dial.went c.args.dial.now) (g.D.Dial.went c.loop-listed.dial) (g.D.Dial.went c.call_to.new.dial)
     c.args.profiles.now c.loop-listed.listed-index c.listed-item.result (search rules) c.listed-item.is
     (g.D.Dial.lines c.args.dial.now) (g.D.Dial.lines c.loop-listed.dial) (g.D.Dial.lines c.call_to.new.dial)
-    c.loop-listed.invariant.vain (rw c.in-Err-NoMemory.field-0-is at c.in-Err-NoMemory.ensures)
+    c.loop-listed.invariant.vain
+    (asking c.args.request.now (given_by c.args.body) c.args.reads)
+    (naming c.args.form (reference_of c.args.ior.now)) c.loop-listed.place c.loop-listed.invariant.place c.in-Iiop.profile c.in-Iiop.is
+    (Err c.in-Err.fault) (λ e. c.in-Err.not-NotReached (cc)) c.in-Err.ensures
 
 pub loop-listed-preserved : goal.loop-listed-preserved
 loop-listed-preserved g c = record {
@@ -50,7 +35,7 @@ loop-listed-preserved g c = record {
         (missed_one (g.D.Dial.went c.args.dial.now) (g.D.Dial.went c.loop-listed.dial) (g.D.Dial.went w.call_to.new.dial)
         c.args.profiles.now c.loop-listed.listed-index c.listed-item.result (search rules) c.listed-item.is
         (g.D.Dial.lines c.args.dial.now) (g.D.Dial.lines c.loop-listed.dial) (g.D.Dial.lines w.call_to.new.dial)
-        c.loop-listed.invariant.vain w.in-Iiop.profile w.in-Iiop.is
+        c.loop-listed.invariant.vain (asking c.args.request.now (given_by c.args.body) c.args.reads) _ w.in-Iiop.profile w.in-Iiop.is
         (rw w.in-Err-NotReached.field-0-is at w.in-Err-NotReached.ensures))
     | in-Other w ↦ rw w.dial-is
         (passed (g.D.Dial.went c.args.dial.now) (g.D.Dial.went c.loop-listed.dial) (g.D.Dial.went c.loop-listed.dial)
