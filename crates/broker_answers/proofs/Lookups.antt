@@ -116,12 +116,6 @@ frame_named model number exception rules there =
     let P = IsException model.graph model.names in
     (all_at P model.exceptions number exception (recursion_from_All P model.exceptions rules.declared.each_exception) there).frame.named
 
-pub reply_named : (model : Parts) (number : ℕ) (operation : Operation) → IsModel model
-    → slice_get model.operations number ≡ Some operation → IsNamed model.names operation.reply
-reply_named model number operation rules there =
-    let P = IsOperation model.graph model.names (length model.exceptions) in
-    (all_at P model.operations number operation (recursion_from_All P model.operations rules.declared.each_operation) there).reply.named
-
 pub thrown_named : (model : Parts) (operation : Operation) (place : ℕ) (exception : Exception) → IsModel model
     → IsThrown model operation place exception → IsNamed model.names exception.frame
 thrown_named model operation place exception rules thrown = frame_named model thrown.number exception rules thrown.there

@@ -1,5 +1,5 @@
 -- Exceptions that are raised.
-use Rattle.std.proofs.Common.{◌≡◌, ◌⊎◌, inl, inr, ℕ, zero, suc, Bool, true, false, List, [], ◌∷◌, sym, subst, ◌∙◌, if◌then◌else◌}
+use Rattle.std.proofs.Common.{◌≡◌, ◌⊎◌, inl, inr, ℕ, zero, suc, Bool, true, false, List, [], ◌∷◌, sym, subst}
 use Rattle.std.proofs.Common.{Option, Some, None, slice_get, IfNone}
 use Rattle.std.specs.List.{AllByRecursion}
 use Rattle.std.proofs.lemmas.List.Elements.{recursion_from_All}
@@ -9,7 +9,7 @@ use Rattle.type_model.specs.ModelRules.{Parts, IsModel, IsException}
 use Rattle.giop_messages.specs.Messages.{Answered}
 use Rattle.called_operations.specs.Exceptions.{exception_with, has_id}
 use Rattle.call_texts.specs.Bodies.{HasNoValue}
-use Rattle.call_texts.specs.Outcomes.{IsNoneRaised, NoId, Unknown, Unread, BeginsWithId}
+use Rattle.call_texts.specs.Outcomes.{IsNoneRaised, Unknown, Unread}
 use Rattle.call_texts.specs.inner.Ids.{IsFrameOfRaised, IsUnknown}
 
 some_is : {A : Type 0} (a b : A) → Some a ≡ Some b → a ≡ b
@@ -42,10 +42,6 @@ frame_named model lent id numbers e same rules found =
     let named : IsNamed lent.names e.frame =
     (all_at P lent.exceptions there.0 e (recursion_from_All P lent.exceptions rules.declared.each_exception) there.1).frame.named in
     subst (λ (m : Parts). IsNamed m.names e.frame) same named
-
-pub no_id_raised : (model : Parts) (exceptions : List ℕ) (answered : Answered)
-    → ((id : List ℕ) → BeginsWithId answered.order answered.body_at answered.body id → ⊥) → IsNoneRaised model exceptions answered
-no_id_raised model exceptions answered none = NoId none
 
 pub unknown : (model : Parts) (exceptions : List ℕ) (answered : Answered) → IsUnknown model exceptions answered
     → IsNoneRaised model exceptions answered

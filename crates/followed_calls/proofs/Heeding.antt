@@ -1,5 +1,5 @@
 -- Calls that are made once more in another form of address.
-use Rattle.std.proofs.Common.{◌≡◌, ℕ, zero, suc, List, ◌++◌, refl, subst, append_assoc, inl, inr, Option, Some, None, Result}
+use Rattle.std.proofs.Common.{◌≡◌, List, ◌++◌, refl, subst, append_assoc, inl, inr, Option, Some, None, Result}
 use Rattle.iiop_broker.specs.Outcomes.{Ends}
 use Rattle.giop_client.specs.declared.fault.CallFault.{CallFault}
 use Rattle.object_references.specs.References.{Reference}
@@ -11,14 +11,7 @@ use Rattle.object_calls.specs.declared.form.Form.{Form}
 use Rattle.object_calls.specs.declared.form.Form.TheVariants as forms
 use Rattle.followed_calls.specs.Hops.{in_form}
 use Rattle.followed_calls.specs.Tries.{IsCalledTwice}
-use Rattle.followed_calls.specs.Heeded.{IsCalledHeeding, asked_in, form_of}
-
--- any other number is that of no form
-pub no_form : (n : ℕ) → (n ≡ 0 → ⊥) → (n ≡ 1 → ⊥) → (n ≡ 2 → ⊥) → form_of n ≡ None
-no_form zero a b c = absurd (a refl)
-no_form (suc zero) a b c = absurd (b refl)
-no_form (suc (suc zero)) a b c = absurd (c refl)
-no_form (suc (suc (suc n))) a b c = refl
+use Rattle.followed_calls.specs.Heeded.{IsCalledHeeding, asked_in}
 
 module _ (Told Mid Told' : List Ends → Type 0) (ask : Asking) (called : Called) (reference : Reference)
     (lines mid lines' : List Line) (result : Result (Option Outcome) CallFault) where

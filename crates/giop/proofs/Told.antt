@@ -65,6 +65,3 @@ not_other : (label : ℤ) (target : Tree) (key : List ℕ) → target ≡ Choice
 not_other label target key e (ByKey f) = absurd (cc)
 not_other label target key e (ByProfile p f h) = absurd (cc)
 not_other label target key e (ByReference n t ps p f at h) = absurd (cc)
-
-pub other_told : (target : Tree) (label : ℤ) → target ≡ Choice label NoTree → IsKeyOf target None
-other_told target label e = λ key told. not_other label target key e told

@@ -126,14 +126,6 @@ key_counted key f = octets_counted key 64 f.1.0
 pub profile_tagged : (one : ℕ × List ℕ) → FitsAsTarget (profile_target one) → IsTagged one
 profile_tagged one f = tagged_fits one 64 f.1.0
 
-pub selected_small : (selected : ℕ) (reference : Reference)
-    → FitsAsTarget (reference_target selected reference.type_id reference.profiles) → selected < 2 ^ 32
-selected_small selected reference f = f.1.0.0
-
-pub selected_text : (selected : ℕ) (reference : Reference)
-    → FitsAsTarget (reference_target selected reference.type_id reference.profiles) → IsText 0 reference.type_id
-selected_text selected reference f = f.1.0.1.0.0
-
 pub selected_reference : (selected : ℕ) (reference : Reference)
     → FitsAsTarget (reference_target selected reference.type_id reference.profiles) → IsReference reference
 selected_reference selected reference f = fitting reference f.1.0.1.0

@@ -4,12 +4,6 @@ use Rattle.object_references.proofs.ProfileKeys.{profile_key_once}
 use Rattle.giop_messages.specs.Messages.{Answered, Answers, Asks, Cancels, Closes, Content, Fails, Says, Seeks}
 use Rattle.giop_messages.proofs.OneMessage.{says_once}
 
--- what says another thing is no answer
-pub says_other : (octets : List ℕ) (content : Content) → ((answered : Answered) → Answers answered ≡ content → ⊥)
-    → Says octets content → (answered : Answered) → Says octets (Answers answered) → ⊥
-says_other octets content other s answered t =
-    other answered (says_once profile_key_once octets (Answers answered) content t s)
-
 id_of : Content → ℕ
 id_of (Asks asked) = 0
 id_of (Answers answered) = answered.id

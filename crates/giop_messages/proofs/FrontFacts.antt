@@ -1,9 +1,8 @@
 -- The front of a stream, step by step.
 use Rattle.std.proofs.Common.{◌≡◌, ℕ, ◌+◌, ◌-◌, ◌%◌, ◌≤◌, Bool, true, false, not, ◌&&◌, ◌||◌, List, [], length, take, drop, refl, sym, ap, ap₂, ◌∙◌, arith}
-use Rattle.std.proofs.Common.{Option, Some, None, IsSomeAnd, Ok, Err, nat_eq, nat_lt, if◌then◌else◌}
+use Rattle.std.proofs.Common.{Option, Some, None, IsSomeAnd, Ok, nat_eq, nat_lt}
 use Rattle.std.proofs.lemmas.List.{drop_all, take_all}
 use Rattle.std.proofs.lemmas.Bool.{eqb-true, le-ltb, ltb-false, not-false, or_parts}
-use Rattle.giop_messages.specs.declared.fault.FramingFault.{FramingFault}
 use Rattle.giop_messages.specs.declared.fault.FramingFault.TheVariants.{BadFragment}
 use Rattle.giop_messages.specs.declared.head.Head.{Head}
 use Rattle.giop_messages.specs.Heads.{head_in, max_size}
@@ -32,24 +31,6 @@ pub front_of : (run : Option (List ℕ)) (octets : List ℕ) → 12 ≤ length o
 front_of run octets le =
     left_out (nat_lt (length octets) 12) More (front_behind run octets (head_in octets))
     (le-ltb (length octets) 12 le)
-
-pub broken_head : (run : Option (List ℕ)) (octets : List ℕ) (fault : FramingFault) → 12 ≤ length octets
-    → head_in octets ≡ Err fault → front run octets ≡ Broken fault
-broken_head run octets fault le e = front_of run octets le ∙ ap (front_behind run octets) e
-
-pub broken_rule : (run : Option (List ℕ)) (octets : List ℕ) (head : Head) → 12 ≤ length octets
-    → head_in octets ≡ Ok head → breaks run head ≡ true → front run octets ≡ Broken BadFragment
-broken_rule run octets head le e rule = front_of run octets le ∙ ap (front_behind run octets) e
-    ∙ taken (breaks run head) (Broken BadFragment) (if nat_lt (length octets) (12 + head.size) then More
-    else if is_other run head (take (12 + head.size) octets) then Broken BadFragment
-    else placed run head (take (12 + head.size) octets) (drop (12 + head.size) octets)) rule
-
--- a fragment of the run that is there
-pub other_is : (run : Option (List ℕ)) (there : List ℕ) (head : Head) (message : List ℕ) → run ≡ Some there
-    → is_fragment head.kind ≡ true
-    → is_other run head message ≡ not (nat_eq (id_in message) (id_in there))
-other_is run there head message e fragment =
-    ap (λ r. is_other r head message) e ∙ ap (λ b. b && not (nat_eq (id_in message) (id_in there))) fragment
 
 -- what a fragment keeps where it breaks no rule of the run
 pub run_kept : (run : List ℕ) (head : Head) → breaks_run run head ≡ false

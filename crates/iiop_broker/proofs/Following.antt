@@ -10,10 +10,6 @@ use Rattle.iiop_broker.specs.declared.kept.Kept.TheVariants as kepts
 use Rattle.iiop_broker.specs.Kept.{stream_of}
 use Rattle.iiop_broker.specs.inner.Progress.{Progress, Ended, IsHeard, Stopped, behind}
 
-pub progress_start : {S : Type 0} (acting : Acting S) (served : Served) (all : Cut) (before : S) (answer : List ℕ)
-    → answer ≡ [] → Progress acting served all all before answer before
-progress_start acting served all before answer none = record { done = []; cut_is = refl; serves = (none, refl, refl) }
-
 pub progress_then : {S : Type 0} (acting : Acting S) (served : Served) (all mid left : Cut) (before between after : S)
     (answer more : List ℕ) → Progress acting served all mid before answer between
     → Progress acting served mid left between more after → Progress acting served all left before (answer ++ more) after

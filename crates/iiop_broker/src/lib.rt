@@ -22,7 +22,6 @@ mod sending;
 mod server;
 mod serving;
 mod stream_fault;
-mod wire;
 
 pub use broker::Broker;
 pub use broker_answers::{Outcome, Servant};
@@ -36,4 +35,3 @@ pub use room::MAX_ROOM;
 pub use sending::send;
 pub use serving::{MAX_READS, serve_stream, serve_stream_within};
 pub use stream_fault::StreamFault;
-pub use wire::Wire;

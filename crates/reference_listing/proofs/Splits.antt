@@ -121,15 +121,6 @@ bodies_once later tape a b x y =
     (subst (λ (l : List ℕ). AreBehind later l a.components) s.rests x.components_are) y.components_are in
     bodies_same a b v.major v.minor s.hosts s.ports s.keys c
 
--- a tape that is cut into these parts is that of no body
-pub no_address : (later : Bool) (tape : List ℕ) (body : Body) (m n : ℕ) (behind : List ℕ) → IsBodyTape later tape body
-    → m < 2 ^ 8 → n < 2 ^ 8 → tape ≡ word Big One (pos m) ++ (word Big One (pos n) ++ behind)
-    → ((host : List ℕ) (port : ℕ) (key rest : List ℕ) → IsAddress behind host port key rest → ⊥) → ⊥
-no_address later tape body m n behind is hm hn e none =
-    let v = behind_version later tape body m n behind is hm hn e in
-    none body.host body.port body.key is.rest
-    (subst (λ (l : List ℕ). IsAddress l body.host body.port body.key is.rest) v.there is.address_is)
-
 pub no_components : (later : Bool) (tape : List ℕ) (body : Body) (m n : ℕ) (behind : List ℕ) (host : List ℕ) (port : ℕ)
     (key rest : List ℕ) → IsBodyTape later tape body → m < 2 ^ 8 → n < 2 ^ 8
     → tape ≡ word Big One (pos m) ++ (word Big One (pos n) ++ behind) → IsAddress behind host port key rest
@@ -139,21 +130,3 @@ no_components later tape body m n behind host port key rest is hm hn e a none =
     let moved = subst (λ (l : List ℕ). IsAddress l body.host body.port body.key is.rest) v.there is.address_is in
     let s = addresses_same behind body.host body.port body.key is.rest host port key rest moved a in
     none body.components (subst (λ (l : List ℕ). AreBehind later l body.components) s.rests is.components_are)
-
--- they are those of this body
-pub whole_body : (later : Bool) (tape : List ℕ) (m n : ℕ) (behind : List ℕ) (host : List ℕ) (port : ℕ) (key rest : List ℕ)
-    (components : List (ℕ × List ℕ)) (h k : List ℕ) → m < 2 ^ 8 → n < 2 ^ 8
-    → tape ≡ word Big One (pos m) ++ (word Big One (pos n) ++ behind) → IsAddress behind host port key rest
-    → AreBehind later rest components → h ≡ host → k ≡ key
-    → IsBodyTape later tape (record { major = m; minor = n; host = h; port = port; key = k; components = components })
-whole_body later tape m n behind host port key rest components h k hm hn e a c same_host same_key =
-    let one = subst (λ (l : List ℕ). IsAddress behind l port key rest) (sym same_host) a in
-    record {
-      major_small = hm;
-      minor_small = hn;
-      address = behind;
-      rest = rest;
-      tape_is = e;
-      address_is = subst (λ (l : List ℕ). IsAddress behind h port l rest) (sym same_key) one;
-      components_are = c;
-    }

@@ -1,6 +1,6 @@
 -- What follows from what a head says to a client.
 use Rattle.std.proofs.Common.{◌≡◌, ℕ, ◌+◌, ◌-◌, ◌≤◌, Bool, true, false, List, ◌++◌, length, take, drop, set, refl, sym, ap, ap₂, ◌∙◌, arith}
-use Rattle.std.proofs.Common.{Result, Ok, Err, if◌then◌else◌}
+use Rattle.std.proofs.Common.{Result, Ok, Err}
 use Rattle.std.proofs.lemmas.List.{get_or-set_same, get_or_append_left, length-take-le, set-append_left, take-append-drop}
 use Rattle.std.proofs.Math.ListN.{length-set}
 use Rattle.std.proofs.Math.Seq.{take-set-lt}
@@ -10,7 +10,7 @@ use Rattle.giop_messages.specs.declared.fault.FramingFault.TheVariants.{BadHead}
 use Rattle.giop_messages.specs.declared.head.MessageKind.{MessageKind}
 use Rattle.giop_messages.specs.declared.head.Head.{Head}
 use Rattle.giop_messages.specs.Heads.{flags_in, goes_on, head_in, max_size, order_of}
-use Rattle.giop_messages.specs.Framing.{begun, order_in}
+use Rattle.giop_messages.specs.Framing.{begun}
 use Rattle.giop_messages.proofs.HeadFacts.{head_longer, head_of_front, head_ok}
 use Rattle.giop_messages.proofs.RunFacts.{without}
 use Rattle.reply_streams.specs.Heads.{alone, followed, may_go_on, reply_head}
@@ -100,13 +100,6 @@ told message head le e = by_flag (goes_on (flags_in message)) refl e where
 -- the message isn't too long
 pub limited : (message : List ℕ) (head : Head) → 12 ≤ length message → reply_head message ≡ Ok head → head.size ≤ max_size
 limited message head le e = (head_ok (alone message) (lone head) (told message head le e).head_is).1
-
--- its order is that of its octets
-pub order_told : (message : List ℕ) (head : Head) → 12 ≤ length message → reply_head message ≡ Ok head
-    → order_in message ≡ head.order
-order_told message head le e =
-    let t = told message head le e in
-    sym t.flags_are ∙ sym (ap (λ (h : Head). h.order) (head_ok (alone message) (lone head) t.head_is).0)
 
 -- ---- what stands behind the 12 octets doesn't change what they say
 

@@ -1,6 +1,6 @@
 -- What becomes of a stream by one message.
-use Rattle.std.proofs.Common.{◌≡◌, ℕ, ◌+◌, ◌<◌, ◌≤◌, Bool, true, false, List, length, take, drop, refl, sym, ap, ◌∙◌, subst, arith}
-use Rattle.std.proofs.Common.{Option, Result, Ok, nat_eq, nat_lt, if◌then◌else◌}
+use Rattle.std.proofs.Common.{◌≡◌, ℕ, ◌+◌, ◌<◌, ◌≤◌, Bool, true, false, List, length, take, drop, refl, sym, ap, ◌∙◌, arith}
+use Rattle.std.proofs.Common.{Option, Result, Ok, nat_eq, nat_lt}
 use Rattle.std.proofs.lemmas.Bool.{le-ltb}
 use Rattle.giop_messages.specs.declared.fault.FramingFault.{FramingFault}
 use Rattle.giop_messages.specs.declared.head.Head.{Head}
@@ -9,7 +9,7 @@ use Rattle.reply_streams.specs.Heads.{reply_head}
 use Rattle.reply_streams.specs.Fronts.{Front, More, Broken, Passed, Piece, front, front_behind, numbered, placed}
 use Rattle.reply_streams.specs.declared.turn.Turn.{Turn}
 use Rattle.reply_streams.specs.declared.turn.Turn.TheVariants as turns
-use Rattle.reply_streams.specs.inner.Turns.{IsPart, IsTaken, IsTurn, Takes, front_of}
+use Rattle.reply_streams.specs.inner.Turns.{IsPart, Takes, front_of}
 
 -- which branch of a test is taken
 pub taken : {A : Type 0} (b : Bool) (x y : A) → b ≡ true → (if b then x else y) ≡ x
@@ -21,11 +21,6 @@ left_out true x y e = absurd (cc)
 left_out false x y e = refl
 
 -- ---- a message with a number
-
-pub unnumbered : (id : ℕ) (fault : FramingFault) (own : Front) (head : Head) (message rest : List ℕ) → nat_lt head.size 4 ≡ true
-    → numbered id fault own head message rest ≡ Broken fault
-unnumbered id fault own head message rest e =
-    taken (nat_lt head.size 4) (Broken fault) (if nat_eq (id_in message) id then own else Passed rest) e
 
 pub passed : (id : ℕ) (fault : FramingFault) (own : Front) (head : Head) (message rest : List ℕ) → nat_lt head.size 4 ≡ false
     → nat_eq (id_in message) id ≡ false → numbered id fault own head message rest ≡ Passed rest
@@ -41,22 +36,11 @@ owned id fault own head message rest e f =
 
 -- ---- the front of a stream
 
-pub front_short : (id : ℕ) (run : Option (List ℕ)) (octets : List ℕ) → nat_lt (length octets) 12 ≡ true
-    → front id run octets ≡ More
-front_short id run octets e = taken (nat_lt (length octets) 12) More (front_behind id run octets (reply_head octets)) e
-
 pub front_long : (id : ℕ) (run : Option (List ℕ)) (octets : List ℕ) (r : Result Head FramingFault) → 12 ≤ length octets
     → reply_head octets ≡ r → front id run octets ≡ front_behind id run octets r
 front_long id run octets r le e =
     left_out (nat_lt (length octets) 12) More (front_behind id run octets (reply_head octets)) (le-ltb (length octets) 12 le)
     ∙ ap (front_behind id run octets) e
-
-pub front_part : (id : ℕ) (run : Option (List ℕ)) (octets : List ℕ) (head : Head) → 12 ≤ length octets
-    → reply_head octets ≡ Ok head → nat_lt (length octets) (12 + head.size) ≡ true → front id run octets ≡ More
-front_part id run octets head le e short =
-    front_long id run octets (Ok head) le e
-    ∙ taken (nat_lt (length octets) (12 + head.size)) More
-    (placed id run head.kind head (take (12 + head.size) octets) (drop (12 + head.size) octets)) short
 
 pub front_whole : (id : ℕ) (run : Option (List ℕ)) (octets message : List ℕ) (head : Head) (n : ℕ) → 12 ≤ length octets
     → reply_head octets ≡ Ok head → n ≡ 12 + head.size → n ≤ length octets → message ≡ take n octets
@@ -88,16 +72,3 @@ parts octets n (turns.Replies reply) t some within = tt
 parts octets n (turns.Breaks fault) t some within = tt
 parts octets n turns.Ends t some within = tt
 parts octets n turns.Refuses t some within = tt
-
-pub turn_of_taken : (id : ℕ) (run : Option (List ℕ)) (octets message : List ℕ) (head : Head) (n : ℕ) (turn : Turn)
-    → 12 ≤ length octets → reply_head octets ≡ Ok head → n ≡ 12 + head.size → n ≤ length octets → message ≡ take n octets
-    → length message ≡ n → IsTaken run (placed id run head.kind head message) (length message) turn
-    → IsTurn run (front id run octets) octets turn
-turn_of_taken id run octets message head n turn le e same within is long t =
-    let takes = subst (λ (k : ℕ). Takes k turn) long t.takes in
-    record {
-      front_is = front_whole id run octets message head n le e same within is ∙ t.front_is (drop n octets)
-          ∙ fronts_same octets n turn takes;
-      keeps = t.keeps;
-      part = parts octets n turn takes (omega (arith, same)) within;
-    }
