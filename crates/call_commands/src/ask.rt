@@ -1,17 +1,15 @@
 //! What is asked for.
 
 use giop::Giop;
-use giop_types::GiopTypes;
 use part_names::PartNames;
 use position_checker::Accepted;
 use type_graph::Order;
 
-/// The types by which calls are made: those of GIOP twice, since `Giop` has its own, and those of a
-/// table with the names of their parts.
+/// The types by which calls are made: those of GIOP, and those of a table with the names of their
+/// parts.
 #[derive(Clone, Copy)]
 pub struct Types<'t> {
     pub giop: &'t Giop,
-    pub types: &'t GiopTypes,
     pub table: &'t Accepted,
     pub names: &'t PartNames,
 }

@@ -6,7 +6,8 @@ ghost use Rattle.type_model.specs.Names.{IsNamed};
 ghost use Rattle.call_commands.specs.Choices.{choice_of, chosen as chosen_by, of_table, own as own_choice, own_as as as_own};
 
 use called_operations::operation_of;
-use giop_types::{BOOLEAN_RESULT, GiopTypes, ID_ARGUMENT, NO_ARGUMENT};
+use giop::Giop;
+use giop_types::{BOOLEAN_RESULT, ID_ARGUMENT, NO_ARGUMENT};
 use part_names::PartNames;
 use position_checker::Accepted;
 
@@ -46,7 +47,7 @@ fn choice_at<'t>(table: &'t Accepted, names: &'t PartNames, number: u32) -> Opti
 
 /// An operation that every object has, which answers with a boolean.
 fn own_as<'t>(
-    types: &'t GiopTypes,
+    giop: &'t Giop,
     nameless: &'t PartNames,
     name: &'t [u8],
     request: u32,
@@ -57,7 +58,7 @@ fn own_as<'t>(
     ensures reply { IsNamed result.table.now.model.names result.reply }
 {
     Choice {
-        table: types.table(),
+        table: giop.table(),
         names: nameless,
         name,
         request,
@@ -68,17 +69,17 @@ fn own_as<'t>(
 }
 
 /// The operation of this name that every object has (ISO/IEC 19500-1, Object Reference Operations).
-fn own<'t>(types: &'t GiopTypes, nameless: &'t PartNames, word: &[u8]) -> Option<Choice<'t>>
+fn own<'t>(giop: &'t Giop, nameless: &'t PartNames, word: &[u8]) -> Option<Choice<'t>>
     requires { nameless.now ≡ [] }
     ensures is { option_map choice_of result ≡ own_choice word.now }
     ensures request { IfSome result (λ c. IsNamed c.table.now.model.names c.request) }
     ensures reply { IfSome result (λ c. IsNamed c.table.now.model.names c.reply) }
 {
     if word == b"_is_a".as_slice() {
-        return Some(own_as(types, nameless, b"_is_a".as_slice(), ID_ARGUMENT));
+        return Some(own_as(giop, nameless, b"_is_a".as_slice(), ID_ARGUMENT));
     }
     if word == b"_non_existent".as_slice() {
-        return Some(own_as(types, nameless, b"_non_existent".as_slice(), NO_ARGUMENT));
+        return Some(own_as(giop, nameless, b"_non_existent".as_slice(), NO_ARGUMENT));
     }
     None
 }
@@ -88,7 +89,7 @@ fn own<'t>(types: &'t GiopTypes, nameless: &'t PartNames, word: &[u8]) -> Option
 pub(crate) fn choose<'t>(
     table: &'t Accepted,
     names: &'t PartNames,
-    types: &'t GiopTypes,
+    giop: &'t Giop,
     nameless: &'t PartNames,
     id: &[u8],
     word: &[u8],
@@ -100,6 +101,6 @@ pub(crate) fn choose<'t>(
 {
     match operation_of(table.table().model(), id, word) {
         Some(number) => choice_at(table, names, number),
-        None => own(types, nameless, word),
+        None => own(giop, nameless, word),
     }
 }

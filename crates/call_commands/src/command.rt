@@ -31,7 +31,7 @@ pub fn call_text<D: Dial>(
 {
     let nameless = PartNames::new(alloc, Vec::new(alloc));
     let (id, word) = (ior.type_id.as_slice(), ask.operation.as_bytes());
-    match choose(types.table, types.names, types.types, &nameless, id, word) {
+    match choose(types.table, types.names, types.giop, &nameless, id, word) {
         Some(choice) => called(types, alloc, dial, ior, &choice, ask),
         None => Err(CallRefusal::NoOperation),
     }

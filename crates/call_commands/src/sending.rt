@@ -74,7 +74,6 @@ fn said<D: Dial>(
     let body = Some((choice.table, choice.request, tape));
     call_object(
         types.giop,
-        types.types,
         alloc,
         dial,
         ior,

@@ -9,7 +9,6 @@ use crate::fault::CaptureFault;
 use crate::files::CaptureFiles;
 use captures::CaptureForm;
 use giop::Giop;
-use giop_types::GiopTypes;
 use message_dumps::{CutShort, Patience, dump_octets, dump_text};
 use message_words::{TableWords, Types};
 use part_names::PartNames;
@@ -39,27 +38,20 @@ impl<R: Clock> Patience for Looks<'_, R> {
 #[derive(Drop)]
 struct Own {
     giop: Giop,
-    types: GiopTypes,
     nameless: PartNames,
 }
 
 impl Own {
     fn new(alloc: Global) -> Result<Own, AllocError> {
         let giop = Giop::new(alloc)?;
-        let types = GiopTypes::new(alloc)?;
         let nameless = PartNames::new(alloc, Vec::new(alloc));
-        Ok(Own {
-            giop,
-            types,
-            nameless,
-        })
+        Ok(Own { giop, nameless })
     }
 
     /// With the types of a table.
     fn with<'a>(&'a self, table: &'a Accepted, names: &'a PartNames) -> Types<'a> {
         Types {
             giop: &self.giop,
-            types: &self.types,
             table,
             names,
             nameless: &self.nameless,

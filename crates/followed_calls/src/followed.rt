@@ -13,7 +13,6 @@ use crate::wanted::Wanted;
 use call_texts::Outcome;
 use giop::{Body, Giop};
 use giop_client::{CallFault, Request};
-use giop_types::GiopTypes;
 use object_calls::Dial;
 use object_references::Ior;
 use std::alloc::Global;
@@ -28,7 +27,6 @@ use std::alloc::Global;
 /// says; `TooManyForwards`; want of memory.
 pub fn call_object<D: Dial>(
     giop: &Giop,
-    types: &GiopTypes,
     alloc: Global,
     dial: &mut D,
     ior: Ior,
@@ -45,7 +43,7 @@ pub fn call_object<D: Dial>(
     let mut at = ior;
     for _count in 0u32..9 {
         let called = match call_heeding(
-            giop, types, alloc, dial, &at, wanted, request, body, reads,
+            giop, alloc, dial, &at, wanted, request, body, reads,
         ) {
             Ok(called) => called,
             Err(fault) => return Err(fault),

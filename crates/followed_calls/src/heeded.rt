@@ -14,7 +14,6 @@ use crate::wanted::Wanted;
 use call_texts::Outcome;
 use giop::{Body, Giop};
 use giop_client::{CallFault, Request};
-use giop_types::GiopTypes;
 use object_calls::{Dial, Form};
 use object_references::Ior;
 use std::alloc::Global;
@@ -45,7 +44,6 @@ fn form_in(answered: &Result<Option<Outcome>, CallFault>) -> Option<Form>
 /// once more in this form.
 pub(crate) fn call_heeding<D: Dial>(
     giop: &Giop,
-    types: &GiopTypes,
     alloc: Global,
     dial: &mut D,
     ior: &Ior,
@@ -61,11 +59,11 @@ pub(crate) fn call_heeding<D: Dial>(
 {
     let key = Form::Key;
     let answered = call_twice(
-        giop, types, alloc, dial, ior, key, wanted, request, body, reads,
+        giop, alloc, dial, ior, key, wanted, request, body, reads,
     );
     match form_in(&answered) {
         Some(form) => call_twice(
-            giop, types, alloc, dial, ior, form, wanted, request, body, reads,
+            giop, alloc, dial, ior, form, wanted, request, body, reads,
         ),
         None => answered,
     }

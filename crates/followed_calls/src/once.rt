@@ -15,7 +15,6 @@ use crate::wanted::Wanted;
 use call_texts::{Outcome, read_outcome};
 use giop::{Body, Giop, Reply};
 use giop_client::{Answer, CallFault, Request};
-use giop_types::GiopTypes;
 use object_calls::{Dial, Form, call_by};
 use object_references::Ior;
 use reference_listing::list_reference;
@@ -23,7 +22,7 @@ use std::alloc::Global;
 
 /// What an answer says.
 fn outcome_of(
-    types: &GiopTypes,
+    giop: &Giop,
     alloc: Global,
     wanted: &Wanted<'_>,
     answer: &Answer,
@@ -40,7 +39,7 @@ fn outcome_of(
     };
     let (table, names) = (wanted.table, wanted.names);
     match read_outcome(
-        types,
+        giop.types(),
         alloc,
         table,
         names,
@@ -57,7 +56,6 @@ fn outcome_of(
 /// Calls the object that a reference names, in a form of address.
 fn call_once<D: Dial>(
     giop: &Giop,
-    types: &GiopTypes,
     alloc: Global,
     dial: &mut D,
     ior: &Ior,
@@ -73,7 +71,7 @@ fn call_once<D: Dial>(
         (in_form form (asking request.now (given_by body.entry) reads)) (called_of wanted.now)
         (reference_of ior.now) (D.lines dial.old) result (D.lines dial.new) }
 {
-    let listing = match list_reference(types, alloc, ior) {
+    let listing = match list_reference(giop.types(), alloc, ior) {
         Ok(listing) => listing,
         Err(_) => return Err(CallFault::NoMemory),
     };
@@ -92,7 +90,7 @@ fn call_once<D: Dial>(
         Err(fault) => return Err(fault),
     };
     match called {
-        Some(answer) => outcome_of(types, alloc, wanted, &answer),
+        Some(answer) => outcome_of(giop, alloc, wanted, &answer),
         None => Ok(None),
     }
 }
@@ -111,7 +109,6 @@ fn is_closed(called: &Result<Option<Outcome>, CallFault>) -> bool
 /// connection before it answered, and so made no call, once more (ISO/IEC 19500-2, Connection Management).
 pub(crate) fn call_twice<D: Dial>(
     giop: &Giop,
-    types: &GiopTypes,
     alloc: Global,
     dial: &mut D,
     ior: &Ior,
@@ -128,11 +125,11 @@ pub(crate) fn call_twice<D: Dial>(
         (reference_of ior.now) (D.lines dial.old) result (D.lines dial.new) }
 {
     let called = call_once(
-        giop, types, alloc, dial, ior, form, wanted, request, body, reads,
+        giop, alloc, dial, ior, form, wanted, request, body, reads,
     );
     if is_closed(&called) {
         return call_once(
-            giop, types, alloc, dial, ior, form, wanted, request, body, reads,
+            giop, alloc, dial, ior, form, wanted, request, body, reads,
         );
     }
     called

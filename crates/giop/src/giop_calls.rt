@@ -47,6 +47,13 @@ impl Giop {
         }
     }
 
+    /// The types. Takes no memory.
+    pub fn types(&self) -> &GiopTypes
+        ensures { result.now ≡ giop_table }
+    {
+        &self.types
+    }
+
     /// The table of the types. Takes no memory.
     pub fn table(&self) -> &Accepted
         ensures { result.now ≡ giop_table }

@@ -12,7 +12,6 @@ use call_commands::{CallRefusal, Ending, TextCall, Types, call_text};
 use command_words::CallTask;
 use dialled_sockets::Dialler;
 use giop::Giop;
-use giop_types::GiopTypes;
 use named_tables::{Loaded, NamedFault, load, source_in, text_in};
 use reply_bodies::SystemException;
 use spelled_references::read_reference;
@@ -99,7 +98,7 @@ fn once<'a, R: Net + Clock + AllocGlobal>(
     id: u32,
 ) -> Result<Ending, Fault<'a>> {
     let Calling { asked, types } = calling;
-    let ior = read_reference(types.types, rt.alloc(), asked.reference)?;
+    let ior = read_reference(types.giop.types(), rt.alloc(), asked.reference)?;
     let ask = TextCall {
         operation: asked.task.operation,
         value: asked.value,
@@ -174,27 +173,6 @@ fn repeated<'a, R: Net + Clock + Eprint + AllocGlobal>(
     Ok(conclusion(rt.alloc(), ending, times)?)
 }
 
-/// Makes the calls with the routines of messages.
-fn called_in<'a, R: Net + Clock + Eprint + AllocGlobal>(
-    rt: &R,
-    asked: Asked<'a, '_>,
-    loaded: &Loaded,
-    giop: &Giop,
-) -> Result<Concluded, Fault<'a>> {
-    match GiopTypes::new(rt.alloc()) {
-        Ok(types) => {
-            let types = Types {
-                giop,
-                types: &types,
-                table: &loaded.table,
-                names: &loaded.names,
-            };
-            repeated(rt, Calling { asked, types })
-        }
-        Err(error) => Err(Fault::from(error)),
-    }
-}
-
 /// Makes the calls. What is large is let go of in few places, so each stands in a function of its own.
 fn called_with<'a, R: Net + Clock + Eprint + AllocGlobal>(
     rt: &R,
@@ -202,7 +180,14 @@ fn called_with<'a, R: Net + Clock + Eprint + AllocGlobal>(
     loaded: &Loaded,
 ) -> Result<Concluded, Fault<'a>> {
     match Giop::new(rt.alloc()) {
-        Ok(giop) => called_in(rt, asked, loaded, &giop),
+        Ok(giop) => {
+            let types = Types {
+                giop: &giop,
+                table: &loaded.table,
+                names: &loaded.names,
+            };
+            repeated(rt, Calling { asked, types })
+        }
         Err(error) => Err(Fault::from(error)),
     }
 }

@@ -39,7 +39,7 @@ pub(crate) fn request_text(
         octets: request.octets,
     };
     let outcome = read_outcome(
-        types.types,
+        types.giop.types(),
         alloc,
         frames.table,
         frames.names,
@@ -67,7 +67,7 @@ fn exception_text(alloc: Global, exception: &SystemException) -> Result<String, 
 
 /// Where an object is, as the text of the reference.
 fn forward_text(types: &Types<'_>, alloc: Global, ior: &Ior) -> Result<String, AllocError> {
-    match ior_to_text(types.types, alloc, ior) {
+    match ior_to_text(types.giop.types(), alloc, ior) {
         Ok(text) => Ok(text),
         Err(ReferenceFault::NoMemory) => Err(AllocError),
         Err(ReferenceFault::BadIor) => String::from_str(alloc, "a reference that can't be written"),
@@ -102,7 +102,7 @@ pub(crate) fn reply_text(
         (answered_of reply.now))) }
 {
     let outcome = read_outcome(
-        types.types,
+        types.giop.types(),
         alloc,
         frames.table,
         frames.names,

@@ -6,16 +6,15 @@ ghost use Rattle.type_model.specs.Names.{IsNamed};
 
 use crate::names::Named;
 use giop::Giop;
-use giop_types::{BOOLEAN_RESULT, GiopTypes, ID_ARGUMENT, NO_ARGUMENT};
+use giop_types::{BOOLEAN_RESULT, ID_ARGUMENT, NO_ARGUMENT};
 use part_names::PartNames;
 use position_checker::Accepted;
 
-/// What messages are told by: the types of GIOP twice over, as two crates hold them, a table with the names
-/// of the parts of its types, and the names of none.
+/// What messages are told by: the types of GIOP, a table with the names of the parts of its types, and the
+/// names of none.
 #[derive(Clone, Copy)]
 pub struct Types<'t> {
     pub giop: &'t Giop,
-    pub types: &'t GiopTypes,
     pub table: &'t Accepted,
     pub names: &'t PartNames,
     pub nameless: &'t PartNames,
@@ -55,7 +54,7 @@ impl<'t> Types<'t> {
         ensures reply { IsNamed result.table.now.model.names result.reply }
     {
         Frames {
-            table: self.types.table(),
+            table: self.giop.table(),
             names: self.nameless,
             request,
             reply: BOOLEAN_RESULT,
