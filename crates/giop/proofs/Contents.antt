@@ -1,5 +1,5 @@
 -- What messages say, from the values of their headers.
-use Rattle.std.proofs.Common.{◌≡◌, ℕ, List, Option, Some, None, Ok, IfNone, IfSome, sym, ap, ◌∙◌, subst}
+use Rattle.std.proofs.Common.{◌≡◌, ℕ, List, Ok, sym, ap, ◌∙◌, subst}
 use Rattle.type_graph.specs.declared.width.Order.{Order}
 use Rattle.type_graph.specs.Value.{Tree}
 use Rattle.giop_messages.specs.declared.head.MessageKind.TheVariants as kinds
@@ -11,10 +11,6 @@ use Rattle.giop.specs.declared.reading.header.RequestHeader.{RequestHeader}
 use Rattle.giop.specs.declared.reading.header.LocateHeader.{LocateHeader}
 use Rattle.giop.specs.inner.Tapes.{Begins, IsTapeAt}
 use Rattle.giop.specs.inner.Targets.{TellsTarget, IsRequestHeader, IsLocateHeader}
-
-pub none_then : {X : Type 0} (o : Option X) (P : Type 0) → o ≡ None → IfNone o P → P
-none_then None P e h = h
-none_then (Some x) P e h = absurd (cc)
 
 heads_same : (octets : List ℕ) (a b : Head) → IsMessage a octets → IsMessage b octets → a ≡ b
 heads_same octets a b one two =
@@ -94,10 +90,6 @@ locate_said octets head tape stop header sought is at told id order key =
           (h.is ∙ ap (λ n. locate_tree n h.target) (sym id)) at.header;
       key_is = key h.target h.tells;
     }
-
--- what holds of the value in a `Some`
-pub some_then : {X : Type 0} (o : Option X) (x : X) (P : X → Type 0) → o ≡ Some x → IfSome o P → P x
-some_then {X = X} o x P e h = subst (λ (q : Option X). IfSome q P) e h
 
 -- the same of a tape that was lent
 pub lent : (octets : List ℕ) (order : Order) (node : ℕ) (tape lent_tape : List ℕ) (stop : ℕ) → lent_tape ≡ tape

@@ -1,5 +1,5 @@
 -- A reply says an answer or nothing.
-use Rattle.std.proofs.Common.{◌≡◌, ℕ, List, Option, Some, None, IfSome, IfNone, ap, subst}
+use Rattle.std.proofs.Common.{◌≡◌, ℕ, List, ap}
 use Rattle.object_references.proofs.ProfileKeys.{profile_key_once}
 use Rattle.giop_messages.specs.Messages.{Answered, Answers, Asks, Cancels, Closes, Content, Fails, Says, Seeks}
 use Rattle.giop_messages.proofs.OneMessage.{says_once}
@@ -16,10 +16,3 @@ id_of Fails = 0
 pub one_number : (octets : List ℕ) (a b : Answered) → Says octets (Answers a) → Says octets (Answers b) → a.id ≡ b.id
 unfolding id_of
 one_number octets a b s t = ap id_of (says_once profile_key_once octets (Answers a) (Answers b) s t)
-
-pub some_then : {X : Type 0} (o : Option X) (x : X) (P : X → Type 0) → o ≡ Some x → IfSome o P → P x
-some_then {X = X} o x P e h = subst (λ (q : Option X). IfSome q P) e h
-
-pub none_then : {X : Type 0} (o : Option X) (P : Type 0) → o ≡ None → IfNone o P → P
-none_then None P e h = h
-none_then (Some x) P e h = absurd (cc)

@@ -5,3 +5,4 @@ pub mod Named
 pub mod PartLaws
 pub mod PartTrees
 pub mod Writings
+pub mod Found

@@ -1,5 +1,5 @@
 -- Octets that begin with the body of a profile.
-use Rattle.std.proofs.Common.{◌≡◌, ℕ, zero, suc, Bool, true, false, not, List, [], ◌∷◌, ◌++◌, take, drop, Option, Some, None, Result, Ok, Err, IfOk, IfSome, IfNone, refl, sym, ap, ◌∙◌, subst}
+use Rattle.std.proofs.Common.{◌≡◌, ℕ, zero, suc, Bool, true, false, not, List, [], ◌∷◌, ◌++◌, take, drop, Option, Some, None, Result, Ok, Err, IfOk, IfNone, refl, sym, ap, ◌∙◌, subst}
 use mathlib.Core.Bool.{beq}
 use Rattle.std.specs.declared.alloc.AllocError.{AllocError}
 use Rattle.std.proofs.lemmas.List.{take-append-drop}
@@ -12,10 +12,6 @@ use Rattle.type_graph.proofs.OneReading.{one_reading}
 use Rattle.giop_types.specs.GiopNodes.{giop_nodes}
 use Rattle.giop_types.specs.Fields.{Holds}
 use Rattle.giop_types.proofs.GraphFacts.{giop_is_graph}
-use Rattle.giop_types.specs.declared.tapes.fault.TapeFault.{TapeFault}
-use Rattle.giop_types.specs.declared.tapes.fault.TapeFault.TheVariants as tapes
-use Rattle.giop_types.specs.TapeRefusal.{RefusesReading}
-use Rattle.run_steps.specs.declared.fault.RunFault.TheVariants as runs
 use Rattle.object_references.specs.Profiles.{Body, body_node, body_tree}
 use Rattle.object_references.specs.Encapsulations.{flag_of}
 use Rattle.object_references.proofs.Encapsulated.{orders_same}
@@ -23,20 +19,6 @@ use Rattle.reference_listing.specs.Listings.{Iiop, IsIiop}
 use Rattle.reference_listing.specs.inner.Bodies.{AreBehind, IsBodyTape, IsFront, IsSomeFront, is_later, minor_of}
 use Rattle.reference_listing.proofs.Shapes.{body_value}
 use Rattle.reference_listing.proofs.Splits.{bodies_once}
-
--- ---- faults that aren't want of memory
-
-pub no_tape : (fault : TapeFault) (P : Type 0) → (fault ≡ tapes.NoMemory → ⊥) → RefusesReading fault P → P
-no_tape tapes.NoMemory P other h = absurd (other refl)
-no_tape tapes.NotATape P other h = h
-no_tape tapes.TooLong P other h = absurd h
-
-pub none_then : {X : Type 0} (o : Option X) (P : Type 0) → o ≡ None → IfNone o P → P
-none_then None P e h = h
-none_then (Some x) P e h = absurd (cc)
-
-pub some_then : {X : Type 0} (o : Option X) (x : X) (P : X → Type 0) → o ≡ Some x → IfSome o P → P x
-some_then {X = X} o x P e h = subst (λ (q : Option X). IfSome q P) e h
 
 -- ---- bodies
 

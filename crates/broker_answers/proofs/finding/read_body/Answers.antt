@@ -1,4 +1,4 @@
-use Rattle.giop.proofs.Contents.{none_then, some_then}
+use Rattle.giop_types.proofs.Found.{none_then, some_then}
 use Rattle.giop_messages.specs.Messages.{asked_of}
 use Rattle.broker_answers.proofs.Readings.{read_is, unread}
 use Rattle.broker_answers.proofs.finding.read_body.Goals as goal

@@ -1,6 +1,6 @@
 use Rattle.std.proofs.Common.{rules, string_bytes}
 use Rattle.value_text.proofs.Named.{in_lent}
-use Rattle.reply_bodies.proofs.Faults.{none_then, some_then}
+use Rattle.giop_types.proofs.Found.{none_then, some_then}
 use Rattle.call_texts.proofs.Facts.{text_is}
 use Rattle.call_texts.proofs.body.body_text.Goals as goal
 

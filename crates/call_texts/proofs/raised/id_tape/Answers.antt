@@ -1,5 +1,5 @@
 use Rattle.giop_messages.specs.Messages.{answered_of}
-use Rattle.reply_bodies.proofs.Faults.{none_then, some_then}
+use Rattle.giop_types.proofs.Found.{none_then, some_then}
 use Rattle.call_texts.proofs.Ids.{id_tape_is, no_id}
 use Rattle.call_texts.proofs.raised.id_tape.Goals as goal
 

@@ -1,6 +1,6 @@
 use Rattle.std.proofs.Common.{List, ℕ, sym, subst}
 use Rattle.giop_messages.specs.Messages.{Answers, Content, Says}
-use Rattle.giop_client.proofs.Saying.{none_then}
+use Rattle.giop_types.proofs.Found.{none_then}
 use Rattle.giop_client.proofs.answer.read_answer.Goals as goal
 
 pub returns-in-None-clause-refused : goal.returns-in-None-clause-refused

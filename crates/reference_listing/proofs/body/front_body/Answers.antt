@@ -1,6 +1,7 @@
 use Rattle.std.proofs.Common.{sym, ◌∙◌}
 use Rattle.reference_listing.specs.Listings.{body_of}
-use Rattle.reference_listing.proofs.Fronts.{bools_differ, bools_same, front_found, no_tape, none_then, nothing_held, same_version, some_body, some_then}
+use Rattle.giop_types.proofs.Found.{no_tape, none_then, some_then}
+use Rattle.reference_listing.proofs.Fronts.{bools_differ, bools_same, front_found, nothing_held, same_version, some_body}
 use Rattle.reference_listing.proofs.body.front_body.Goals.{then-body-ne1-via-then-body-ne1, then-body-ne1-via-else-body-ne1+then-is_later-later}
 use Rattle.reference_listing.proofs.body.front_body.Goals as goal
 

@@ -1,7 +1,8 @@
 use Rattle.std.proofs.Common.{List, ℕ}
 use Rattle.object_references.specs.Profiles.{Body}
 use Rattle.reference_listing.specs.inner.Bodies.{IsSomeFront}
-use Rattle.reference_listing.proofs.Fronts.{no_profile, none_then}
+use Rattle.giop_types.proofs.Found.{none_then}
+use Rattle.reference_listing.proofs.Fronts.{no_profile}
 use Rattle.reference_listing.proofs.body.iiop_profile.Goals as goal
 
 pub returns-in-None-clause-refused : goal.returns-in-None-clause-refused

@@ -1,7 +1,8 @@
 use Rattle.std.proofs.Common.{List, ℕ, true}
 use Rattle.object_references.specs.Profiles.{Body}
 use Rattle.reference_listing.specs.inner.Bodies.{IsFront}
-use Rattle.reference_listing.proofs.Fronts.{none_lately, none_then}
+use Rattle.giop_types.proofs.Found.{none_then}
+use Rattle.reference_listing.proofs.Fronts.{none_lately}
 use Rattle.reference_listing.proofs.body.some_body.Goals as goal
 
 pub returns-in-None-clause-refused : goal.returns-in-None-clause-refused

@@ -1,7 +1,7 @@
 use Rattle.type_graph.specs.Value.{Tree}
 use Rattle.reply_bodies.specs.Bodies.{BeginsWith, exception_tree}
 use Rattle.reply_bodies.specs.inner.Tapes.{HasTape}
-use Rattle.reply_bodies.proofs.Faults.{none_then, some_then}
+use Rattle.giop_types.proofs.Found.{none_then, some_then}
 use Rattle.reply_bodies.proofs.Exceptions.{exception_found, exception_there}
 use Rattle.reply_bodies.proofs.exception.read_exception.Goals as goal
 

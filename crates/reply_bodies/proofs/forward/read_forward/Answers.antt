@@ -2,7 +2,7 @@ use Rattle.type_graph.specs.Value.{Tree}
 use Rattle.object_references.specs.References.{reference_of, reference_tree}
 use Rattle.reply_bodies.specs.Bodies.{BeginsWith}
 use Rattle.reply_bodies.specs.inner.Tapes.{HasTape}
-use Rattle.reply_bodies.proofs.Faults.{no_tape, none_then, some_then}
+use Rattle.giop_types.proofs.Found.{no_tape, none_then, some_then}
 use Rattle.reply_bodies.proofs.Forwards.{reference_found, reference_there}
 use Rattle.reply_bodies.proofs.forward.read_forward.Goals as goal
 

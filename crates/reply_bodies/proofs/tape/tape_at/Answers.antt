@@ -1,4 +1,5 @@
-use Rattle.reply_bodies.proofs.Faults.{none_read, none_then, some_then, tape_read}
+use Rattle.giop_types.proofs.Found.{none_then, some_then}
+use Rattle.reply_bodies.proofs.Faults.{none_read, tape_read}
 use Rattle.reply_bodies.proofs.tape.tape_at.Goals as goal
 
 pub returns-in-Some-clause-found : goal.returns-in-Some-clause-found

@@ -1,6 +1,6 @@
 use Rattle.std.proofs.Common.{option_map, inl, inr, sym, ◌∙◌}
 use Rattle.giop_messages.specs.Messages.{Content, Says, content_of}
-use Rattle.giop.proofs.Contents.{none_then, some_then}
+use Rattle.giop_types.proofs.Found.{none_then, some_then}
 use Rattle.giop.proofs.Frames.{part_found, silent, whole_found}
 use Rattle.giop.proofs.giop_calls.Giop.read_frame.Goals as goal
 use Rattle.giop.proofs.giop_calls.Giop.read_frame.Goals.{then-is_fragment-via-then-is_fragment, then-is_fragment-via-else-is_fragment+then-frame}

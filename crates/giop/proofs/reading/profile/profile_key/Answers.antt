@@ -1,5 +1,5 @@
 use Rattle.reference_listing.specs.Listings.{Iiop, IsIiop, iiop_of}
-use Rattle.giop.proofs.Contents.{none_then, some_then}
+use Rattle.giop_types.proofs.Found.{none_then, some_then}
 use Rattle.giop.proofs.ProfileKeys.{has_key, no_key}
 use Rattle.giop.proofs.reading.profile.profile_key.Goals as goal
 

@@ -1,4 +1,4 @@
-use Rattle.giop.proofs.Contents.{none_then, some_then}
+use Rattle.giop_types.proofs.Found.{none_then, some_then}
 use Rattle.giop.proofs.Places.{tape_found, no_tape}
 use Rattle.giop.proofs.reading.message.Reading.header_tape.Goals as goal
 

@@ -1,6 +1,7 @@
 use Rattle.std.proofs.Common.{refl}
 use Rattle.giop_messages.specs.Messages.{sought_of}
-use Rattle.giop.proofs.Contents.{NoHeader, no_locate, lent, locate_said, none_then, some_then}
+use Rattle.giop_types.proofs.Found.{none_then, some_then}
+use Rattle.giop.proofs.Contents.{NoHeader, no_locate, lent, locate_said}
 use Rattle.giop.proofs.reading.message.Reading.locate.Goals as goal
 
 pub returns-in-None-clause-refused : goal.returns-in-None-clause-refused

@@ -1,4 +1,5 @@
-use Rattle.giop.proofs.Contents.{NoHeader, no_reply, none_then}
+use Rattle.giop_types.proofs.Found.{none_then}
+use Rattle.giop.proofs.Contents.{NoHeader, no_reply}
 use Rattle.giop.proofs.reading.message.Reading.reply.Goals as goal
 
 pub returns-in-None-clause-refused : goal.returns-in-None-clause-refused

@@ -1,5 +1,6 @@
 use Rattle.std.proofs.Common.{option_map, refl}
-use Rattle.giop.proofs.Contents.{NoHeader, no_request, lent, none_then, request_said, some_then}
+use Rattle.giop_types.proofs.Found.{none_then, some_then}
+use Rattle.giop.proofs.Contents.{NoHeader, no_request, lent, request_said}
 use Rattle.giop.proofs.reading.message.Reading.request.Goals as goal
 
 pub returns-in-None-clause-refused : goal.returns-in-None-clause-refused
