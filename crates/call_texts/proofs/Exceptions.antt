@@ -1,6 +1,6 @@
 -- Exceptions that are raised.
 use Rattle.std.proofs.Common.{◌≡◌, ◌⊎◌, inl, inr, ℕ, zero, suc, Bool, true, false, List, [], ◌∷◌, sym, subst}
-use Rattle.std.proofs.Common.{Option, Some, None, slice_get, IfNone}
+use Rattle.std.proofs.Common.{Option, Some, None, slice_get, IfNone, if◌then◌else◌}
 use Rattle.std.specs.List.{AllByRecursion}
 use Rattle.std.proofs.lemmas.List.Elements.{recursion_from_All}
 use Rattle.type_model.specs.declared.signatures.Exception.{Exception}

@@ -1,6 +1,6 @@
 -- The front of a stream, step by step.
 use Rattle.std.proofs.Common.{◌≡◌, ℕ, ◌+◌, ◌-◌, ◌%◌, ◌≤◌, Bool, true, false, not, ◌&&◌, ◌||◌, List, [], length, take, drop, refl, sym, ap, ap₂, ◌∙◌, arith}
-use Rattle.std.proofs.Common.{Option, Some, None, IsSomeAnd, Ok, nat_eq, nat_lt}
+use Rattle.std.proofs.Common.{Option, Some, None, IsSomeAnd, Ok, nat_eq, nat_lt, if◌then◌else◌}
 use Rattle.std.proofs.lemmas.List.{drop_all, take_all}
 use Rattle.std.proofs.lemmas.Bool.{eqb-true, le-ltb, ltb-false, not-false, or_parts}
 use Rattle.giop_messages.specs.declared.fault.FramingFault.TheVariants.{BadFragment}
