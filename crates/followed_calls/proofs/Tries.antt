@@ -15,14 +15,14 @@ closing : (result : Result (Option Outcome) CallFault) → closes result ≡ tru
 closing (Err CloseConnection) is = refl
 closing result is = absurd cc
 
+other_faults : CloseConnection ≡ NoMemory → ⊥
+other_faults e = cc
+
 -- the call was made, and not answered
 closed_hop : (ask : InForm) (called : Called) (reference : Reference) (lines lines' : List Line) (tos : List Ends)
     → IsOnce ask called reference lines (Err CloseConnection) lines' tos
     → IsHop ask reference lines (Err CloseConnection) lines' tos
-closed_hop ask called reference lines lines' tos (inl untried) = absurd (impossible untried.fault_is)
-  where
-    impossible : CloseConnection ≡ NoMemory → ⊥
-    impossible e = cc
+closed_hop ask called reference lines lines' tos (inl untried) = absurd (other_faults untried.fault_is)
 closed_hop ask called reference lines lines' tos (inr (inl hop)) = hop
 closed_hop ask called reference lines lines' tos (inr (inr answered)) = absurd answered.outcome_is
 

@@ -16,6 +16,9 @@ use Rattle.type_graph.specs.Value.{Tree}
 use Rattle.object_calls.specs.Talks.{Asking, IsBefore, IsCalledBy, IsCalledTo, IsGivenUp, IsTalkBy, IsTalkTo, IsTo, IsUnnamed, IsUnnamedBy, IsUnreached}
 use Rattle.object_calls.proofs.Rows.{missed_next, rows_before, rows_split}
 
+other_faults : NotReached ≡ NeedsAddressingMode → ⊥
+other_faults e = cc
+
 module _ (Told Mid Told' : List Ends → Type 0) (ps : List ListedProfile) (i : ℕ) (p : ListedProfile)
     (within : i < length ps) (is : p ≡ get_or ps i p) (lines mid lines' : List Line)
     (vain : IsUnreached Told Mid (all_missed (rows_of (take i ps))) lines mid) where
@@ -84,7 +87,8 @@ module _ (Told Mid Told' : List Ends → Type 0) (ps : List ListedProfile) (i : 
   called ask naming place place_is profile iiop (Ok answer) other to =
       talked ask naming place place_is profile iiop (Ok answer) to
   called ask naming place place_is profile iiop (Err fault) other (inl before) =
-      inl (given_up fault _ (λ e. other (ap Err e)) before)
+      inl (given_up fault (missed profile.body.host.items profile.body.port ∷ [])
+      (λ (e : fault ≡ NotReached). other (ap (λ (f : CallFault). Err f) e)) before)
   called ask naming place place_is profile iiop (Err fault) other (inr (inl none)) =
       inr (inl (unnamed naming place place_is profile iiop fault none))
   called ask naming place place_is profile iiop (Err fault) other (inr (inr to)) =
@@ -111,10 +115,7 @@ module _ (Told Mid Told' : List Ends → Type 0) (ps : List ListedProfile) (i : 
       → IsCalledTo Mid Told' ask Target (iiop_of profile) mid (Err NotReached) lines'
       → IsUnreached Told Told' (all_missed (rows_of (take (i + 1) ps))) lines lines'
   missed_one ask Target profile iiop (inl before) = missed_more profile iiop before
-  missed_one ask Target profile iiop (inr (inl none)) = absurd (impossible none.fault_is)
-    where
-      impossible : NotReached ≡ NeedsAddressingMode → ⊥
-      impossible e = cc
+  missed_one ask Target profile iiop (inr (inl none)) = absurd (other_faults none.fault_is)
   missed_one ask Target profile iiop (inr (inr to)) = absurd (not_called ask Target profile to)
 
   pub passed : (tag : ℕ) (octets : Vec ℕ Global) → p ≡ listed.Other tag octets
