@@ -46,12 +46,7 @@ fn choice_at<'t>(table: &'t Accepted, names: &'t PartNames, number: u32) -> Opti
 }
 
 /// An operation that every object has, which answers with a boolean.
-fn own_as<'t>(
-    giop: &'t Giop,
-    nameless: &'t PartNames,
-    name: &'t [u8],
-    request: u32,
-) -> Choice<'t>
+fn own_as<'t>(giop: &'t Giop, nameless: &'t PartNames, name: &'t [u8], request: u32) -> Choice<'t>
     requires { nameless.now ≡ [] }
     ensures is { choice_of result ≡ as_own name.now request }
     ensures request { IsNamed giop_table.model.names request → IsNamed result.table.now.model.names result.request }

@@ -73,14 +73,7 @@ fn said<D: Dial>(
     };
     let body = Some((choice.table, choice.request, tape));
     call_object(
-        types.giop,
-        alloc,
-        dial,
-        ior,
-        &wanted,
-        &request,
-        body,
-        ask.reads,
+        types.giop, alloc, dial, ior, &wanted, &request, body, ask.reads,
     )
 }
 

@@ -42,9 +42,7 @@ pub fn call_object<D: Dial>(
 {
     let mut at = ior;
     for _count in 0u32..9 {
-        let called = match call_heeding(
-            giop, alloc, dial, &at, wanted, request, body, reads,
-        ) {
+        let called = match call_heeding(giop, alloc, dial, &at, wanted, request, body, reads) {
             Ok(called) => called,
             Err(fault) => return Err(fault),
         };

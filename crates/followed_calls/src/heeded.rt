@@ -58,13 +58,9 @@ pub(crate) fn call_heeding<D: Dial>(
         (called_of wanted.now) (reference_of ior.now) (D.lines dial.old) result (D.lines dial.new) }
 {
     let key = Form::Key;
-    let answered = call_twice(
-        giop, alloc, dial, ior, key, wanted, request, body, reads,
-    );
+    let answered = call_twice(giop, alloc, dial, ior, key, wanted, request, body, reads);
     match form_in(&answered) {
-        Some(form) => call_twice(
-            giop, alloc, dial, ior, form, wanted, request, body, reads,
-        ),
+        Some(form) => call_twice(giop, alloc, dial, ior, form, wanted, request, body, reads),
         None => answered,
     }
 }

@@ -124,13 +124,9 @@ pub(crate) fn call_twice<D: Dial>(
         (in_form form (asking request.now (given_by body.entry) reads)) (called_of wanted.now)
         (reference_of ior.now) (D.lines dial.old) result (D.lines dial.new) }
 {
-    let called = call_once(
-        giop, alloc, dial, ior, form, wanted, request, body, reads,
-    );
+    let called = call_once(giop, alloc, dial, ior, form, wanted, request, body, reads);
     if is_closed(&called) {
-        return call_once(
-            giop, alloc, dial, ior, form, wanted, request, body, reads,
-        );
+        return call_once(giop, alloc, dial, ior, form, wanted, request, body, reads);
     }
     called
 }

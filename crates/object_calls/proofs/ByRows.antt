@@ -96,7 +96,7 @@ module _ (Told Mid Told' : List Ends → Type 0) (ps : List ListedProfile) (i : 
 
   not_called : (ask : Asking) (Target : Tree → Type 0) (profile : IiopProfile)
       → IsTalkTo Mid Told' ask Target (iiop_of profile) mid (Err NotReached) lines' → ⊥
-  not_called ask Target profile to = elim to.talk.called [ | inl unsaid ↦ unsaid.sending | inr awaited ↦ awaited.awaited ]
+  not_called ask Target profile to = elim to.talk.called [ inl unsaid ↦ unsaid.sending | inr awaited ↦ awaited.awaited ]
 
   missed_more : (profile : IiopProfile) → p ≡ listed.Iiop profile
       → IsUnreached Mid Told' (missed profile.body.host.items profile.body.port ∷ []) mid lines'

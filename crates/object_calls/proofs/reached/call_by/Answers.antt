@@ -1,7 +1,8 @@
 use Rattle.std.proofs.Common.{rules, ap, ◌+◌, Ok, Err}
 use Rattle.giop.specs.Made.{given_by}
 use Rattle.object_references.specs.References.{reference_of}
-use Rattle.object_calls.specs.Forms.{naming}
+use Rattle.reference_listing.specs.Listings.{iiop_of}
+use Rattle.object_calls.specs.Forms.{IsTarget, naming}
 use Rattle.object_calls.specs.Talks.{asking}
 use Rattle.object_calls.proofs.ByRows.{called, missed_one, passed}
 use Rattle.object_calls.proofs.reached.call_by.Goals as goal
@@ -35,7 +36,9 @@ loop-listed-preserved g c = record {
         (missed_one (g.D.Dial.went c.args.dial.now) (g.D.Dial.went c.loop-listed.dial) (g.D.Dial.went w.call_to.new.dial)
         c.args.profiles.now c.loop-listed.listed-index c.listed-item.result (search rules) c.listed-item.is
         (g.D.Dial.lines c.args.dial.now) (g.D.Dial.lines c.loop-listed.dial) (g.D.Dial.lines w.call_to.new.dial)
-        c.loop-listed.invariant.vain (asking c.args.request.now (given_by c.args.body) c.args.reads) _ w.in-Iiop.profile w.in-Iiop.is
+        c.loop-listed.invariant.vain (asking c.args.request.now (given_by c.args.body) c.args.reads)
+        (IsTarget (naming c.args.form (reference_of c.args.ior.now)) c.loop-listed.place (iiop_of w.in-Iiop.profile))
+        w.in-Iiop.profile w.in-Iiop.is
         (rw w.in-Err-NotReached.field-0-is at w.in-Err-NotReached.ensures))
     | in-Other w ↦ rw w.dial-is
         (passed (g.D.Dial.went c.args.dial.now) (g.D.Dial.went c.loop-listed.dial) (g.D.Dial.went c.loop-listed.dial)
