@@ -1,8 +1,6 @@
 -- A call with its arguments as text, and how it ends.
 use Rattle.std.specs.Prelude.{◌≡◌, ◌⊎◌, ℕ, Bool, true, false, List, Option, Some, None, Result, Ok, Err}
-use Rattle.type_graph.specs.declared.width.Order.{Order}
 use Rattle.giop.specs.Made.{given}
-use Rattle.giop_messages.specs.Written.{Given}
 use Rattle.giop_client.specs.declared.fault.CallFault.{CallFault}
 use Rattle.giop_client.specs.declared.fault.CallFault.TheVariants as faults
 use Rattle.giop_client.specs.declared.request.Request.{Request}

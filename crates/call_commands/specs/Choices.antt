@@ -1,6 +1,6 @@
 -- Which operation a word names for an object: one of a table's, or one that every object has (ISO/IEC 19500-1, Object
 -- Reference Operations; ISO/IEC 19500-2, GIOP message formats: operation).
-use Rattle.std.specs.Prelude.{ℕ, Bool, false, if◌then◌else◌, List, [], ◌∷◌, Option, Some, None, option_map, slice_get, codes}
+use Rattle.std.specs.Prelude.{ℕ, Bool, false, if◌then◌else◌, List, [], Option, Some, None, option_map, slice_get, codes}
 use Rattle.std.specs.Str.{bytes_eq}
 use Rattle.type_model.specs.declared.signatures.Operation.{Operation}
 use Rattle.type_model.specs.ModelRules.{Parts}

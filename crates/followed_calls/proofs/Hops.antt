@@ -11,7 +11,7 @@ use Rattle.call_texts.specs.Outcomes.{Called}
 use Rattle.call_texts.specs.declared.outcome.Outcome.{Outcome}
 use Rattle.object_calls.specs.Forms.{Naming, naming}
 use Rattle.object_calls.specs.Lines.{Line}
-use Rattle.object_calls.specs.Talks.{Asking, IsBefore, IsCalledBy, IsGivenUp, IsTalkBy}
+use Rattle.object_calls.specs.Talks.{Asking, IsCalledBy, IsGivenUp, IsTalkBy}
 use Rattle.followed_calls.specs.Hops.{InForm, IsCalledOnce, IsHop, IsOnce, IsOutcomeIn, just}
 
 -- what was handed back in a call, and the call as if nothing had been before
