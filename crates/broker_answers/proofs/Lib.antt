@@ -12,3 +12,8 @@ pub mod ServedRaws
 pub mod ServedLists
 pub mod OneFinding
 pub mod OneAnswer
+pub mod Names
+pub mod Places
+pub mod Looked
+pub mod Actions
+pub mod Histories

@@ -10,3 +10,6 @@ pub mod Serving
 pub mod Answering
 pub mod OneAnswer
 pub mod inner
+pub mod Attributes
+pub mod Keeping
+pub mod History

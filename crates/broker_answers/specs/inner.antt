@@ -1,3 +1,4 @@
 -- What the crate's own code and proofs name, and no public contract does.
 pub mod FindingSteps
 pub mod Sending
+pub mod Places

@@ -3,6 +3,7 @@
 #![tactic(auto)]
 
 mod answer;
+pub mod attribute_keeper;
 mod exception;
 mod finding;
 pub mod laws;

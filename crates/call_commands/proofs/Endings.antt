@@ -1,10 +1,10 @@
 -- How calls end, by their outcomes.
 use Rattle.std.proofs.Common.{◌≡◌, List, sym, subst, inr, Option, Some, Result, Ok, Err}
 use Rattle.object_references.specs.References.{Reference}
-use Rattle.call_texts.specs.declared.outcome.Outcome.{Outcome}
-use Rattle.call_texts.specs.declared.outcome.Outcome.TheVariants as outcomes
-use Rattle.object_calls.specs.Lines.{Line}
-use Rattle.object_calls.specs.Talks.{Telling}
+use Rattle.text_commands.specs.declared.call_texts.outcome.Outcome.{Outcome}
+use Rattle.text_commands.specs.declared.call_texts.outcome.Outcome.TheVariants as outcomes
+use Rattle.giop_client.specs.Lines.{Line}
+use Rattle.giop_client.specs.Talks.{Telling}
 use Rattle.call_commands.specs.Calls.{IsCarriedOut, IsEnding, IsLastOutcome, IsSaid, IsTextCalled}
 use Rattle.call_commands.specs.Choices.{Choice, chosen}
 use Rattle.call_commands.specs.declared.ask.TextCall.{TextCall}

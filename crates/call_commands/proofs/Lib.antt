@@ -1,1 +1,5 @@
 pub mod Endings
+pub mod Hops
+pub mod Tries
+pub mod Heeding
+pub mod Chains

@@ -5,13 +5,13 @@ use Rattle.giop_client.specs.declared.fault.CallFault.{CallFault}
 use Rattle.giop_client.specs.declared.fault.CallFault.TheVariants as faults
 use Rattle.giop_client.specs.declared.request.Request.{Request}
 use Rattle.object_references.specs.References.{Reference}
-use Rattle.call_texts.specs.Bodies.{IsTapeOfText, SaysNone}
-use Rattle.call_texts.specs.Outcomes.{called}
-use Rattle.call_texts.specs.declared.outcome.Outcome.{Outcome}
-use Rattle.call_texts.specs.declared.outcome.Outcome.TheVariants as outcomes
-use Rattle.object_calls.specs.Lines.{Line}
-use Rattle.object_calls.specs.Talks.{Telling, asking}
-use Rattle.followed_calls.specs.Followed.{IsFollowed}
+use Rattle.text_commands.specs.Bodies.{IsTapeOfText, SaysNone}
+use Rattle.text_commands.specs.Outcomes.{called}
+use Rattle.text_commands.specs.declared.call_texts.outcome.Outcome.{Outcome}
+use Rattle.text_commands.specs.declared.call_texts.outcome.Outcome.TheVariants as outcomes
+use Rattle.giop_client.specs.Lines.{Line}
+use Rattle.giop_client.specs.Talks.{Telling, asking}
+use Rattle.call_commands.specs.Followed.{IsFollowed}
 use Rattle.call_commands.specs.Choices.{Choice, chosen}
 use Rattle.call_commands.specs.declared.ask.TextCall.{TextCall}
 use Rattle.call_commands.specs.declared.ask.Types.{Types}

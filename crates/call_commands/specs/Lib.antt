@@ -1,3 +1,9 @@
 pub mod Causes
 pub mod Choices
 pub mod Calls
+pub mod Hops
+pub mod Tries
+pub mod Heeded
+pub mod Followed
+pub mod Wanted
+pub mod inner

@@ -1,7 +1,7 @@
 //! What is asked for.
 
 use giop::Giop;
-use part_names::PartNames;
+use type_model::part_names::PartNames;
 use position_checker::Accepted;
 use type_graph::Order;
 

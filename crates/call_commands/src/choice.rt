@@ -5,10 +5,10 @@ ghost use Rattle.giop_types.specs.GiopModel.{giop_table};
 ghost use Rattle.type_model.specs.Names.{IsNamed};
 ghost use Rattle.call_commands.specs.Choices.{choice_of, chosen as chosen_by, of_table, own as own_choice, own_as as as_own};
 
-use called_operations::operation_of;
+use type_model::called_operations::operation_of;
 use giop::Giop;
 use giop_types::{BOOLEAN_RESULT, ID_ARGUMENT, NO_ARGUMENT};
-use part_names::PartNames;
+use type_model::part_names::PartNames;
 use position_checker::Accepted;
 
 /// An operation with its types and the names of their parts: the frames of its arguments and of its

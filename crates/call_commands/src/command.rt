@@ -8,9 +8,9 @@ use crate::choice::choose;
 use crate::ending::Ending;
 use crate::fault::CallRefusal;
 use crate::sending::called;
-use object_calls::Dial;
+use giop_client::object_calls::Dial;
 use object_references::Ior;
-use part_names::PartNames;
+use type_model::part_names::PartNames;
 use std::alloc::Global;
 
 /// Calls an operation of the object that a reference names, with the arguments that a text says.

@@ -1,6 +1,6 @@
 //! How calls end.
 
-use reply_bodies::SystemException;
+use giop::reply_bodies::SystemException;
 use std::fmt;
 
 /// What becomes of a call.

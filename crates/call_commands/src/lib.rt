@@ -6,6 +6,7 @@ mod choice;
 mod command;
 mod ending;
 mod fault;
+pub mod followed_calls;
 mod sending;
 
 pub use ask::{TextCall, Types};

@@ -1,7 +1,7 @@
 -- What it says that reading stopped: the tokens are those of no specification.
 use Rattle.std.proofs.Common.{◌≡◌, ◌⊎◌, inl, inr, ℕ, false, List, Some}
 use Rattle.idl_tree.specs.Pieces.{Seen}
-use Rattle.tree_laws.specs.DefinitionDescent.{definitions_way, is_over}
+use Rattle.idl_tree.specs.DefinitionDescent.{definitions_way, is_over}
 use Rattle.definition_reader.specs.declared.stop.Stop.{Stop}
 use Rattle.definition_reader.specs.declared.stop.Stop.TheVariants.{NoMemory}
 use Rattle.definition_reader.specs.inner.Following.{Ends}

@@ -12,12 +12,12 @@ use Rattle.idl_lexer.specs.declared.token.Token.{Token}
 use Rattle.idl_lexer.specs.declared.token.Kind.TheVariants.{Punct}
 use Rattle.idl_lexer.specs.Tokens.{end_of}
 use Rattle.idl_tree.specs.Pieces.{Seen, kind_code, seen_from, touching}
-use Rattle.tree_laws.proofs.Fronts.{same_kind}
+use Rattle.idl_tree.proofs.Fronts.{same_kind}
 use Rattle.idl_tree.specs.declared.expression.Operator.{Operator}
 use Rattle.idl_tree.specs.declared.expression.Operator.TheVariants.{Or, Xor, And, ShiftLeft, ShiftRight, Add, Subtract, Multiply, Divide, Remainder}
 use Rattle.idl_tree.specs.Grouping.{is_operator_of}
-use Rattle.tree_laws.specs.Descent.{Way, sees, sees_kind, sees_touching, sees_shift, sees_word, behind_next, only_if, and_then, where_seen, opened, repeated, if_seen, first_seen, operator_seen, operator_at, operator_way, operand_way, operands_way, level_way, unary_way, inside_way, simple_type_way, param_type_way, enum_way, listed_way, identifier_way, mark_taken, named_way, type_way, struct_way, union_way, sees_mark, rest_way, braced_way, no_brace}
-use Rattle.tree_laws.specs.DefinitionDescent.{is_ahead, is_over, attributes_way, definition_way, definitions_way, single_way}
+use Rattle.idl_tree.specs.Descent.{Way, sees, sees_kind, sees_touching, sees_shift, sees_word, behind_next, only_if, and_then, where_seen, opened, repeated, if_seen, first_seen, operator_seen, operator_at, operator_way, operand_way, operands_way, level_way, unary_way, inside_way, simple_type_way, param_type_way, enum_way, listed_way, identifier_way, mark_taken, named_way, type_way, struct_way, union_way, sees_mark, rest_way, braced_way, no_brace}
+use Rattle.idl_tree.specs.DefinitionDescent.{is_ahead, is_over, attributes_way, definition_way, definitions_way, single_way}
 use Rattle.definition_reader.specs.declared.stop.Stop.{Stop}
 use Rattle.definition_reader.specs.declared.stop.Stop.TheVariants.{NoMemory}
 use Rattle.definition_reader.specs.inner.Reading.{Parsed}

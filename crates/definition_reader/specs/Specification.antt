@@ -6,7 +6,7 @@ use Rattle.idl_tree.specs.declared.definitions.Definition.{Definition}
 use Rattle.idl_tree.specs.DefinitionYields.{definitions_spelled}
 use Rattle.idl_tree.specs.DefinitionLevels.{levels_of}
 use Rattle.idl_tree.specs.Pieces.{Seen, past, is_end}
-use Rattle.tree_laws.specs.DefinitionDescent.{definitions_way}
+use Rattle.idl_tree.specs.DefinitionDescent.{definitions_way}
 
 -- all of some tokens are what definitions spell, which have no more levels than these
 pub record Whole (levels : ℕ) (tokens : List Seen) (definitions : List Definition) : Type 0 where

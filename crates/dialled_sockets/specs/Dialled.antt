@@ -1,7 +1,7 @@
 -- What was dialled, as its line. Connections tell nothing of what they carry.
 use Rattle.std.specs.Prelude.{if◌then◌else◌, None, false}
 use Rattle.iiop_broker.specs.Outcomes.{Ends, ends}
-use Rattle.object_calls.specs.Lines.{Line, made, missed}
+use Rattle.giop_client.specs.Lines.{Line, made, missed}
 use Rattle.dialled_sockets.specs.declared.dialler.Dialled.{Dialled}
 
 abbrev pub silent : Ends

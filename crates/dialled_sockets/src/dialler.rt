@@ -6,7 +6,7 @@ ghost use Rattle.dialled_sockets.specs.Dialled.{line_of};
 use crate::deadline::Deadline;
 use crate::ends::{DialledReader, DialledWriter};
 use crate::place::{Handles, Kept, Place, connected, standing};
-use object_calls::{Dial, DialFault};
+use giop_client::object_calls::{Dial, DialFault};
 use std::alloc::{AllocError, Global};
 use std::net::Net;
 use std::time::Clock;

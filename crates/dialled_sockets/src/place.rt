@@ -3,7 +3,7 @@
 ghost use Rattle.std.specs.Prelude.{◌≡◌, ◌⊎◌, None};
 
 use crate::deadline::Deadline;
-use reply_streams::closes;
+use giop_messages::reply_streams::closes;
 use std::alloc::{AllocError, Global};
 use std::io::ErrorKind;
 use std::net::{Net, OpenStream, TcpStream, ToSocketAddrs};

@@ -1,0 +1,5 @@
+
+pub mod Under
+pub mod Feeds
+pub mod Firsts
+pub mod Walks

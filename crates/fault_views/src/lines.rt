@@ -1,8 +1,8 @@
 //! The lines that tell of faults.
 
 use crate::facts::{AllKnown, Known, Note, Spot, known_of};
-use shown_source::{all_shown, show_line};
-use source_places::{line_start, place_at};
+use crate::shown_source::{all_shown, show_line};
+use crate::source_places::{line_start, place_at};
 use std::alloc::{AllocError, Global};
 
 /// The codes by which a terminal writes in another way from there on (ECMA-48, SGR).

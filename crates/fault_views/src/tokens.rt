@@ -3,7 +3,7 @@
 
 use crate::facts::{Known, Spot};
 use idl_lexer::{LexFault, lex};
-use source_places::line_start;
+use crate::source_places::line_start;
 use std::alloc::{AllocError, Global};
 use std::str;
 

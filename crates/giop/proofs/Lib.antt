@@ -14,3 +14,6 @@ pub mod TargetSplits
 pub mod Targets
 pub mod Told
 pub mod WrittenTargets
+pub mod Faults
+pub mod Exceptions
+pub mod Forwards

@@ -4,3 +4,6 @@ pub mod Made
 pub mod Refusal
 pub mod RoundTrips
 pub mod inner
+pub mod Bodies
+pub mod Messages
+pub mod GiopBuffersFronts

@@ -2,3 +2,4 @@
 pub mod Pushed
 pub mod Tapes
 pub mod Targets
+pub mod ReplyBodiesTapes

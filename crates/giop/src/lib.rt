@@ -4,9 +4,11 @@
 
 mod front;
 mod gap;
+pub mod giop_buffers;
 mod giop_calls;
 pub mod laws;
 mod reading;
+pub mod reply_bodies;
 mod writing;
 
 pub use front::Front;

@@ -1,2 +1,5 @@
 pub mod Reading
 pub mod Saying
+pub mod Rows
+pub mod ByRows
+pub mod Places

@@ -7,10 +7,10 @@ use Rattle.giop_messages.specs.declared.fault.FramingFault.{FramingFault}
 use Rattle.giop_messages.specs.Messages.{Answered, Answers, Says}
 use Rattle.iiop_broker.specs.Ends.{Gives, IsEmpty}
 use Rattle.iiop_broker.proofs.Going.{gives_start, gives_then}
-use Rattle.reply_streams.specs.Heard.{Breaks, Ends, Heard, Refuses, Replies, Waits, heard, heard_more}
-use Rattle.reply_streams.specs.Room.{wanted}
-use Rattle.reply_streams.proofs.Hearing.{in_pieces}
-use Rattle.reply_streams.proofs.Waiting.{SaysNothing, still_waits, waited_before}
+use Rattle.giop_messages.specs.Heard.{Breaks, Ends, Heard, Refuses, Replies, Waits, heard, heard_more}
+use Rattle.giop_messages.specs.ReplyStreamsRoom.{wanted}
+use Rattle.giop_messages.proofs.Hearing.{in_pieces}
+use Rattle.giop_messages.proofs.Waiting.{SaysNothing, still_waits, waited_before}
 use Rattle.giop_client.specs.declared.answer.Answer.{Answer}
 use Rattle.giop_client.specs.declared.fault.CallFault.{CallFault}
 use Rattle.giop_client.specs.declared.fault.CallFault.TheVariants as faults

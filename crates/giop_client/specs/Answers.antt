@@ -1,7 +1,7 @@
 -- What the reply to a request says.
 use Rattle.std.specs.Prelude.{◌≡◌, ℕ, List}
 use Rattle.giop_messages.specs.Messages.{Answered, Answers, Says}
-use Rattle.reply_streams.specs.Heard.{Replies, heard}
+use Rattle.giop_messages.specs.Heard.{Replies, heard}
 use Rattle.giop_client.specs.declared.answer.Answer.{Answer}
 
 -- what an answer says

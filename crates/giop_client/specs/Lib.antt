@@ -4,3 +4,6 @@ pub mod Outcomes
 pub mod Requests
 pub mod Calls
 pub mod inner
+pub mod Forms
+pub mod Lines
+pub mod Talks

@@ -1,7 +1,7 @@
 -- How it ends to await a reply.
 use Rattle.std.specs.Prelude.{◌≡◌, ◌<◌, ◌≤◌, ℕ, Bool, true, List, ◌++◌, length, Option, Result, Ok, Err}
 use Rattle.iiop_broker.specs.Ends.{Gives, IsEmpty}
-use Rattle.reply_streams.specs.Heard.{Breaks, Ends, Refuses, Waits, heard}
+use Rattle.giop_messages.specs.Heard.{Breaks, Ends, Refuses, Waits, heard}
 use Rattle.giop_client.specs.declared.answer.Answer.{Answer}
 use Rattle.giop_client.specs.declared.fault.CallFault.{CallFault}
 use Rattle.giop_client.specs.declared.fault.CallFault.TheVariants as faults

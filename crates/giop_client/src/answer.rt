@@ -5,7 +5,7 @@ ghost use Rattle.giop_messages.specs.Messages.{Answered, Answers, Says, answered
 ghost use Rattle.giop_client.specs.Answers.{answer_of};
 
 use giop::{Giop, Message, Reply, ReplyStatus};
-use reply_streams::SentReply;
+use giop_messages::reply_streams::SentReply;
 use std::alloc::{AllocError, Global};
 use type_graph::Order;
 

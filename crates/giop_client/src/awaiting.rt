@@ -7,7 +7,7 @@ use crate::answer::{Answer, read_answer};
 use crate::fault::CallFault;
 use giop::Giop;
 use iiop_broker::{Input, read_within};
-use reply_streams::{Heard, ReplyStream, SentReply};
+use giop_messages::reply_streams::{Heard, ReplyStream, SentReply};
 use std::alloc::Global;
 
 /// So many octets are read at a time at most.

@@ -7,6 +7,7 @@ mod awaiting;
 mod calling;
 mod fault;
 pub mod laws;
+pub mod object_calls;
 mod request;
 
 pub use answer::Answer;

@@ -6,3 +6,9 @@ pub mod Worked
 pub mod OneWritten
 pub mod OneKey
 pub mod OneMessage
+pub mod ReplyStreamsHeadFacts
+pub mod ReplyStreamsRunFacts
+pub mod TurnFacts
+pub mod Hearing
+pub mod Steps
+pub mod Waiting

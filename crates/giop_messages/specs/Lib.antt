@@ -7,3 +7,9 @@ pub mod Headers
 pub mod Messages
 pub mod Written
 pub mod Faults
+pub mod ReplyStreamsHeads
+pub mod Fronts
+pub mod Heard
+pub mod ReplyStreamsRoom
+pub mod Told
+pub mod inner

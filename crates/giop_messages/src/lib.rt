@@ -9,6 +9,7 @@ mod head;
 mod joining;
 pub mod laws;
 mod message;
+pub mod reply_streams;
 mod run;
 
 pub use cancel::{cancels, message_id};

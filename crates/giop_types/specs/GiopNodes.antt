@@ -2,7 +2,7 @@
 use Rattle.std.specs.Prelude.{ℕ, pos, List, [], ◌∷◌, ◌++◌, None}
 use Rattle.type_graph.specs.declared.node.Node.{Node}
 use Rattle.type_graph.specs.declared.node.Node.TheVariants as nodes
-use Rattle.basic_types.specs.BasicNodes.{basic_nodes}
+use Rattle.type_graph.specs.BasicNodes.{basic_nodes}
 
 -- · 14 the reserved octets of a request;
 -- · 15 an index with the object reference whose profile it selects, 16 the address of a target (TargetAddress): by the

@@ -7,7 +7,7 @@ ghost use Rattle.type_graph.specs.GraphRules.{IsGraph};
 ghost use Rattle.type_graph.specs.Refusal.{wants_memory};
 ghost use Rattle.giop_types.specs.GiopNodes.{body_nodes, giop_nodes, header_nodes, request_nodes};
 
-use basic_types::{
+use type_graph::basic_types::{
     BOOLEAN, OBJECT, OCTET, OCTETS, SHORT, STRING, TAGGED, TAGGED_LIST, UNSIGNED_LONG,
     UNSIGNED_SHORT, basic_nodes,
 };

@@ -10,7 +10,7 @@ mod table;
 mod tapes;
 mod types;
 
-pub use basic_types::OBJECT;
+pub use type_graph::basic_types::OBJECT;
 pub use finding::find_value;
 pub use graph::{
     BOOLEAN_RESULT, CANCEL_REQUEST_HEADER, ID_ARGUMENT, LOCATE_REPLY_HEADER, LOCATE_REQUEST_HEADER,

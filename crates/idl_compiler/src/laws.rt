@@ -4,7 +4,7 @@ ghost use Rattle.std.specs.Prelude.{◌≡◌, ◌≢◌, ℕ, List};
 ghost use Rattle.idl_lexer.specs.declared.fault.LexFault.{LexFault};
 ghost use Rattle.idl_parser.specs.declared.fault.ParseFault.{ParseFault};
 ghost use Rattle.idl_tree.specs.declared.definitions.Definition.{Definition};
-ghost use Rattle.tree_laws.specs.DefinitionShapes.{spec_shape};
+ghost use Rattle.idl_tree.specs.DefinitionShapes.{spec_shape};
 ghost use Rattle.type_model.specs.ModelRules.{Parts};
 ghost use Rattle.idl_compiler.specs.declared.fault.CompileFault.{CompileFault};
 ghost use Rattle.idl_compiler.specs.declared.fault.CompileFault.TheVariants.{Grammar, NoMemory, Tokens};
@@ -16,7 +16,7 @@ use idl_lexer::laws::tokens_are_one;
 use model_builder::laws as models;
 use scoped_names::laws::names_are_one;
 use shape_laws::laws::{names_are_of_the_shape, types_are_of_the_shape};
-use tree_laws::laws::spec_is_one;
+use idl_tree::tree_laws::laws::spec_is_one;
 
 /// Definitions have at most one model.
 pub fn model_is_one()

@@ -15,7 +15,7 @@ use idl_parser::parse;
 use idl_tree::spec::Spec;
 use model_builder::{Built, build};
 use optimiser::planned;
-use part_names::PartNames;
+use type_model::part_names::PartNames;
 use scoped_names::bind;
 use std::alloc::Global;
 use type_model::Model;

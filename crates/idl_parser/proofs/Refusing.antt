@@ -10,7 +10,7 @@ use Rattle.idl_tree.specs.declared.definitions.Definition.{Definition}
 use Rattle.idl_tree.specs.Pieces.{Seen, Spell, seen_from}
 use Rattle.idl_tree.specs.DefinitionYields.{definitions_spelled}
 use Rattle.idl_tree.specs.DefinitionLevels.{levels_of}
-use Rattle.tree_laws.proofs.DefinitionWays.{spec_found}
+use Rattle.idl_tree.proofs.DefinitionWays.{spec_found}
 
 pub refuses : (tokens : List Token) (left : List Seen) (stop : Stop) (fault : ParseFault) → left ≡ seen_from 0 tokens
     → (stop ≡ StopNoMemory → fault ≡ FaultNoMemory) → (stop ≡ StopNoMemory) ⊎ IsNoSpec 64 left

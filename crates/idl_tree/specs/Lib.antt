@@ -11,3 +11,8 @@ pub mod Starts
 pub mod Lists
 pub mod PartsLeft
 pub mod Forms
+pub mod Shapes
+pub mod TypeShapes
+pub mod DefinitionShapes
+pub mod Descent
+pub mod DefinitionDescent

@@ -13,4 +13,5 @@ pub mod names;
 mod readers;
 mod readings;
 pub mod spec;
+pub mod tree_laws;
 pub mod types;

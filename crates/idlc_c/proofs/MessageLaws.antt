@@ -2,9 +2,9 @@
 use Rattle.std.proofs.Common.{◌≡◌, ℕ, List, arith}
 use Rattle.giop_messages.specs.declared.fault.GiopFault.{GiopFault}
 use Rattle.giop_messages.specs.declared.fault.GiopFault.TheVariants as faults
-use Rattle.giop_buffers.specs.declared.fault.BufferFault.{BufferFault}
-use Rattle.giop_buffers.specs.declared.fault.BufferFault.TheVariants.{NoRoom, Refused}
-use Rattle.giop_buffers.specs.Messages.{HasLength, Refuses}
+use Rattle.giop.specs.declared.giop_buffers.fault.BufferFault.{BufferFault}
+use Rattle.giop.specs.declared.giop_buffers.fault.BufferFault.TheVariants.{NoRoom, Refused}
+use Rattle.giop.specs.Messages.{HasLength, Refuses}
 use Rattle.idlc_c.specs.MessageAnswers.{length_of_buffer, number_of_buffer}
 
 -- 45 says that something is so long

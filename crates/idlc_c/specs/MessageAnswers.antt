@@ -7,9 +7,9 @@ use Rattle.giop_messages.specs.declared.message.ReplyStatus.{ReplyStatus}
 use Rattle.giop_messages.specs.Headers.{number_of}
 use Rattle.giop.specs.Fronts.{IsRefused}
 use Rattle.giop.specs.Made.{given}
-use Rattle.giop_buffers.specs.declared.fault.BufferFault.{BufferFault}
-use Rattle.giop_buffers.specs.declared.fault.BufferFault.TheVariants.{NoRoom, Refused}
-use Rattle.giop_buffers.specs.Messages.{IsRequest, IsNoRequest, IsReply, IsNoReply, HasLength, Refuses}
+use Rattle.giop.specs.declared.giop_buffers.fault.BufferFault.{BufferFault}
+use Rattle.giop.specs.declared.giop_buffers.fault.BufferFault.TheVariants.{NoRoom, Refused}
+use Rattle.giop.specs.Messages.{IsRequest, IsNoRequest, IsReply, IsNoReply, HasLength, Refuses}
 use Rattle.idlc_c.specs.declared.messages.MessageRefusal.{MessageRefusal}
 use Rattle.idlc_c.specs.declared.messages.MessageRefusal.TheVariants.{NotNamed, NotHanded}
 use Rattle.idlc_c.specs.Answers.{IsOwn, order_of}

@@ -4,7 +4,7 @@ use Rattle.std.specs.Bool.{OnFalse}
 use Rattle.std.specs.Str.{IsUtf8}
 use Rattle.json.specs.Lex.{tokens}
 use Rattle.json.specs.Print.{print}
-use Rattle.escaped_json.specs.Escaped.{escaped}
+use Rattle.value_text.specs.Escaped.{escaped}
 use Rattle.type_graph.specs.declared.width.Order.{Order}
 use Rattle.type_graph.specs.Words.{reading, writing}
 use Rattle.type_graph.specs.Value.{Tree, Fits, node_at, tape_of}

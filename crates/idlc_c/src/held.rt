@@ -4,7 +4,7 @@ ghost use Rattle.std.specs.Prelude.{◌≡◌, [], IfOk};
 ghost use Rattle.std.specs.Arc.{arc_value};
 
 use giop::Giop;
-use part_names::PartNames;
+use type_model::part_names::PartNames;
 use position_checker::Accepted;
 use program_runner::Room;
 use std::alloc::{AllocError, Global};

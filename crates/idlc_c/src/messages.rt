@@ -6,13 +6,14 @@ ghost use Rattle.type_model.specs.Names.{IsNamed};
 ghost use Rattle.giop.specs.Made.{given};
 ghost use Rattle.giop_messages.specs.declared.message.ReplyStatus.{ReplyStatus};
 ghost use Rattle.giop_messages.specs.Headers.{number_of};
-ghost use Rattle.giop_buffers.specs.Messages.{IsNoRequestOf, IsRequestOf};
+ghost use Rattle.giop.specs.Messages.{IsNoRequestOf, IsRequestOf};
 ghost use Rattle.idlc_c.specs.MessageAnswers.{IsNoReplyBy, IsReplyBy, RefusesMessage, length_of_buffer, length_of_message, number_of_buffer, number_of_giop, number_of_message};
 
 use crate::held::Held;
 use crate::marshal::order;
+use giop::giop_buffers;
 use giop::{GiopFault, ReplyStatus};
-use giop_buffers::{BufferFault, ReplyHead, RequestHead};
+use giop::giop_buffers::{BufferFault, ReplyHead, RequestHead};
 use std::alloc::Global;
 
 #[derive(Clone, Copy)]

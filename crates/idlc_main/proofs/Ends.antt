@@ -17,8 +17,8 @@ use Rattle.table_commands.specs.declared.refusal.Refusal.TheVariants as refusals
 use Rattle.command_words.specs.Ask.{Ask, Description, Explanation, Reference, Value}
 use Rattle.idlc_main.specs.Answer.{IsAnswer, IsEndOf, IsExplanationFault, IsFaultOf, IsStrange}
 use Rattle.idlc_main.specs.Descriptions.{IsDescriptionFault}
-use Rattle.spelled_references.specs.declared.fault.SpellingFault.{SpellingFault}
-use Rattle.spelled_references.specs.declared.fault.SpellingFault.TheVariants as spellings
+use Rattle.reference_listing.specs.declared.spelled_references.fault.SpellingFault.{SpellingFault}
+use Rattle.reference_listing.specs.declared.spelled_references.fault.SpellingFault.TheVariants as spellings
 
 -- a refusal is of the input, or of files or memory
 statuses : (refusal : Refusal) → (status_of_refusal refusal ≡ 1) ⊎ (3 ≤ status_of_refusal refusal)

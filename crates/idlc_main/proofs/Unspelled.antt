@@ -1,9 +1,9 @@
 -- A text that spells no reference.
 use Rattle.std.proofs.Common.{ℕ, List, inl}
 use Rattle.std.specs.Str.{IsTrimAscii}
-use Rattle.spelled_references.specs.Refusal.{RefusesSpelling}
-use Rattle.spelled_references.specs.declared.fault.SpellingFault.{SpellingFault}
-use Rattle.spelled_references.specs.declared.fault.SpellingFault.TheVariants.{BadIor, BadCorbaloc, NoMemory}
+use Rattle.reference_listing.specs.Refusal.{RefusesSpelling}
+use Rattle.reference_listing.specs.declared.spelled_references.fault.SpellingFault.{SpellingFault}
+use Rattle.reference_listing.specs.declared.spelled_references.fault.SpellingFault.TheVariants.{BadIor, BadCorbaloc, NoMemory}
 use Rattle.table_commands.specs.Named.{Passing}
 use Rattle.named_tables.specs.Values.{IsTextFor}
 use Rattle.idlc_main.specs.Descriptions.{IsNoReference}

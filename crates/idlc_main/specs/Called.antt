@@ -1,7 +1,7 @@
 -- What is told of calls.
 use Rattle.std.specs.Prelude.{◌≡◌, ℕ, List, [], ◌++◌, codes}
 use Rattle.std.specs.String.{string_bytes}
-use Rattle.reply_bodies.specs.declared.exception.SystemException.{SystemException}
+use Rattle.giop.specs.declared.reply_bodies.exception.SystemException.{SystemException}
 use Rattle.call_commands.specs.declared.ending.Ending.{Ending}
 use Rattle.call_commands.specs.declared.ending.Ending.TheVariants.{Returned, Raised, Failed, Sent}
 use Rattle.idlc_main.specs.declared.calls.CallEnd.{CallEnd}

@@ -1,10 +1,10 @@
 -- What is told of the reference that a word stands for.
 use Rattle.std.specs.Prelude.{◌⊎◌, ℕ, List}
 use Rattle.std.specs.Str.{IsTrimAscii}
-use Rattle.spelled_references.specs.Described.{IsDescription}
-use Rattle.spelled_references.specs.Refusal.{SpellsNone}
-use Rattle.spelled_references.specs.declared.fault.SpellingFault.{SpellingFault}
-use Rattle.spelled_references.specs.declared.fault.SpellingFault.TheVariants.{BadIor, BadCorbaloc, NoMemory as WantsMemory}
+use Rattle.reference_listing.specs.Described.{IsDescription}
+use Rattle.reference_listing.specs.Refusal.{SpellsNone}
+use Rattle.reference_listing.specs.declared.spelled_references.fault.SpellingFault.{SpellingFault}
+use Rattle.reference_listing.specs.declared.spelled_references.fault.SpellingFault.TheVariants.{BadIor, BadCorbaloc, NoMemory as WantsMemory}
 use Rattle.table_commands.specs.Named.{Passing}
 use Rattle.named_tables.specs.Values.{HasNoInput, IsTextFor}
 use Rattle.named_tables.specs.declared.fault.NamedFault.TheVariants as named

@@ -10,8 +10,8 @@ use Rattle.call_commands.specs.Causes.{cause_of}
 use Rattle.call_commands.specs.declared.fault.CallRefusal.{CallRefusal}
 use Rattle.giop_client.specs.declared.fault.Cause.{Cause}
 use Rattle.giop_client.specs.declared.fault.Cause.TheVariants as causes
-use Rattle.spelled_references.specs.declared.fault.SpellingFault.{SpellingFault}
-use Rattle.spelled_references.specs.declared.fault.SpellingFault.TheVariants as spellings
+use Rattle.reference_listing.specs.declared.spelled_references.fault.SpellingFault.{SpellingFault}
+use Rattle.reference_listing.specs.declared.spelled_references.fault.SpellingFault.TheVariants as spellings
 use Rattle.socket_server.specs.declared.fault.ServeFault.{ServeFault}
 use Rattle.socket_server.specs.declared.fault.ServeFault.TheVariants as serve_faults
 use Rattle.named_tables.specs.declared.fault.NamedFault.{NamedFault}

@@ -12,7 +12,7 @@ use crate::fault::Fault;
 use crate::told::Answer;
 use giop_types::GiopTypes;
 use named_tables::{NamedFault, source_in, text_in};
-use spelled_references::{SpellingFault, described_reference};
+use reference_listing::spelled_references::{SpellingFault, described_reference};
 use table_commands::WholeFiles;
 
 /// The lines of the reference that a text spells, which a word stands for, by the routines of messages.

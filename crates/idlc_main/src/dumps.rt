@@ -8,7 +8,7 @@ use crate::fault::Fault;
 use crate::listener::Listener;
 use crate::told::named_fault;
 use command_words::DumpTask;
-use dump_commands::{CaptureFault, CaptureFiles, CaptureNames, dump_capture};
+use message_words::dump_commands::{CaptureFault, CaptureFiles, CaptureNames, dump_capture};
 use message_dumps::DumpFault;
 use named_tables::{Loaded, load};
 use std::io::Write;

@@ -11,7 +11,7 @@ use idl_compiler::CompileRefusal;
 use message_dumps::DumpFault;
 use named_tables::NamedFault;
 use socket_server::ServeFault;
-use spelled_references::SpellingFault;
+use reference_listing::spelled_references::SpellingFault;
 use std::alloc::AllocError;
 use std::fmt;
 use table_commands::Refusal;

@@ -1,7 +1,7 @@
 //! What else is known of a fault.
 
 use crate::fault::Fault;
-use refusal_views::{number_in, refusal_view, table_known};
+use fault_views::refusal_views::{number_in, refusal_view, table_known};
 use std::alloc::AllocError;
 use table_commands::{Refusal, WholeFiles, read_file};
 

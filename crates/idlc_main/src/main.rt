@@ -34,7 +34,7 @@ use crate::tasks::{done, table_in};
 use crate::told::Answer;
 use call_commands::ExceptionLine;
 use command_words::{CallTask, DumpTask, Mistake, Said, explains, parse};
-use dump_commands::CaptureFiles;
+use message_words::dump_commands::CaptureFiles;
 use fault_views::Look;
 use socket_server::Totals;
 use std::alloc::{AllocError, Global};

@@ -5,7 +5,7 @@ use Rattle.std.proofs.lemmas.List.{length-replicate}
 use Rattle.std.proofs.lemmas.List.Elements.{All-cons, All-nil, All-replicate}
 use Rattle.idl_tree.specs.declared.definitions.Definition.{Definition}
 use Rattle.idl_tree.specs.declared.spec.Spec.{Spec}
-use Rattle.basic_types.specs.BasicNodes.{basic_nodes}
+use Rattle.type_graph.specs.BasicNodes.{basic_nodes}
 use Rattle.type_graph.specs.declared.node.Node.{Node}
 use Rattle.type_graph.specs.GraphRules.{AreMembers, IsNode, IsPart, all_members}
 use Rattle.name_table.specs.Entry.{Entry}

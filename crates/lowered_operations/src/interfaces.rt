@@ -15,6 +15,7 @@ use lowered_types::{BuildFault, Place, declared_entry};
 use scoped_names::{Names, Scope};
 use std::alloc::Global;
 use type_graph::Items;
+use type_graph::basic_types;
 
 /// The identifier of an interface.
 fn identifier_of<'a>(interface: &Interface<'a>) -> Leaf<'a>

@@ -5,7 +5,7 @@ use Rattle.std.specs.List.{AllByRecursion}
 use Rattle.std.proofs.lemmas.List.{length-set}
 use Rattle.std.proofs.lemmas.Option.{slice_get_within}
 use Rattle.idl_tree.specs.declared.names.At.{At}
-use Rattle.basic_types.specs.BasicNodes.{basic_nodes}
+use Rattle.type_graph.specs.BasicNodes.{basic_nodes}
 use Rattle.type_graph.specs.declared.node.Node.{Node}
 use Rattle.type_graph.specs.GraphRules.{IsNoFrame, IsNode, IsPart, all_members, members_in}
 use Rattle.idl_tree.specs.declared.kinds.EntryKind.{EntryKind}

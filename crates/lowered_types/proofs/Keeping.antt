@@ -3,7 +3,7 @@
 use Rattle.std.proofs.Common.{◌≡◌, ◌∙◌, ◌⊎◌, inl, inr, ℕ, suc, ◌+◌, ◌≤◌, le_refl, true, false, List, ◌∷◌, length, Option, Some, None, sym, ap, subst, arith}
 use Rattle.std.specs.Prelude.{slice_get}
 use Rattle.idl_tree.specs.declared.names.Leaf.{Leaf}
-use Rattle.basic_types.specs.BasicNodes.{basic_nodes}
+use Rattle.type_graph.specs.BasicNodes.{basic_nodes}
 use Rattle.type_graph.specs.declared.node.Node.{Node}
 use Rattle.type_graph.specs.GraphRules.{all_members}
 use Rattle.idl_tree.specs.declared.kinds.EntryKind.{EntryKind}

@@ -9,8 +9,8 @@ use Rattle.idl_tree.specs.declared.names.ScopedName.{ScopedName}
 use Rattle.idl_tree.specs.declared.expression.Expr.{Expr}
 use Rattle.idl_tree.specs.Starts.{expr_start, leaf_at as at}
 use Rattle.type_graph.specs.GraphRules.{IsPart}
-use Rattle.const_values.specs.Arithmetic.{where_true}
-use Rattle.const_values.specs.Worth.{positive, whole_number}
+use Rattle.name_table.specs.Arithmetic.{where_true}
+use Rattle.name_table.specs.Worth.{positive, whole_number}
 use Rattle.idl_tree.specs.declared.kinds.EntryKind.{EntryKind}
 use Rattle.idl_tree.specs.declared.kinds.EntryKind.TheVariants as Kinds
 use Rattle.name_table.specs.Entry.{Entry, named}

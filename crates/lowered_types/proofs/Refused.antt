@@ -7,8 +7,8 @@ use Rattle.idl_tree.specs.declared.const_expr.ConstExpr.{ConstExpr}
 use Rattle.idl_tree.specs.declared.types.Label.TheVariants.{Case, Default}
 use Rattle.idl_tree.specs.Starts.{expr_start, leaf_at}
 use Rattle.type_graph.specs.declared.fault.GraphLimit.TheVariants.{Members as MembersLimit}
-use Rattle.const_values.specs.declared.constant.Constant.{Constant}
-use Rattle.const_values.specs.Kinds.{fits}
+use Rattle.name_table.specs.declared.const_values.constant.Constant.{Constant}
+use Rattle.name_table.specs.Kinds.{fits}
 use Rattle.name_table.specs.Entry.{Entry}
 use Rattle.scoped_names.specs.Reading.{◌>>◌}
 use Rattle.scoped_names.specs.Tests.{value_read}

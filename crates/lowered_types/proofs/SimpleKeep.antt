@@ -18,7 +18,7 @@ use Rattle.idl_tree.specs.declared.types.EnumType.{EnumType}
 use Rattle.idl_tree.specs.declared.types.TypeSpec.{Simple}
 use Rattle.idl_tree.specs.Lists.{parts}
 use Rattle.idl_tree.specs.Starts.{expr_start, leaf_at}
-use Rattle.basic_types.specs.BasicNodes.{basic_nodes}
+use Rattle.type_graph.specs.BasicNodes.{basic_nodes}
 use Rattle.type_graph.specs.declared.fault.GraphLimit.{GraphLimit}
 use Rattle.type_graph.specs.declared.fault.GraphLimit.TheVariants.{Bound as BoundLimit, Enumerators, Size}
 use Rattle.type_graph.specs.declared.node.Node.{Node}

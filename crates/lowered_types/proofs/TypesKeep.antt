@@ -17,9 +17,9 @@ use Rattle.type_graph.specs.declared.fault.GraphLimit.TheVariants.{Members as Me
 use Rattle.type_graph.specs.declared.node.Node.{Node}
 use Rattle.type_graph.specs.declared.values.Values.{Values}
 use Rattle.type_graph.specs.GraphRules.{AreMembers, IsPart}
-use Rattle.const_values.specs.declared.constant.Constant.{Constant}
-use Rattle.const_values.specs.declared.kind.ConstKind.{ConstKind}
-use Rattle.const_values.specs.Kinds.{fits}
+use Rattle.name_table.specs.declared.const_values.constant.Constant.{Constant}
+use Rattle.name_table.specs.declared.const_values.kind.ConstKind.{ConstKind}
+use Rattle.name_table.specs.Kinds.{fits}
 use Rattle.idl_tree.specs.declared.kinds.EntryKind.TheVariants as Kinds
 use Rattle.name_table.specs.Entry.{Entry}
 use Rattle.name_table.specs.Search.{word}

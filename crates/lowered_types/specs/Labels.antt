@@ -14,11 +14,11 @@ use Rattle.type_graph.specs.declared.node.Node.{Node}
 use Rattle.type_graph.specs.declared.node.Node.TheVariants.{Integer as IntegerNode, Char, Boolean as BooleanNode, Enum}
 use Rattle.type_graph.specs.declared.values.Values.{Values}
 use Rattle.type_graph.specs.Words.{words_of}
-use Rattle.const_values.specs.declared.constant.Constant.{Constant}
-use Rattle.const_values.specs.declared.constant.Constant.TheVariants.{Integer, Boolean, Character, Text, Enumerator}
-use Rattle.const_values.specs.declared.kind.ConstKind.{ConstKind}
-use Rattle.const_values.specs.declared.kind.ConstKind.TheVariants as Kinds
-use Rattle.const_values.specs.Kinds.{fits}
+use Rattle.name_table.specs.declared.const_values.constant.Constant.{Constant}
+use Rattle.name_table.specs.declared.const_values.constant.Constant.TheVariants.{Integer, Boolean, Character, Text, Enumerator}
+use Rattle.name_table.specs.declared.const_values.kind.ConstKind.{ConstKind}
+use Rattle.name_table.specs.declared.const_values.kind.ConstKind.TheVariants as Kinds
+use Rattle.name_table.specs.Kinds.{fits}
 use Rattle.name_table.specs.Entry.{Entry, meant_in}
 use Rattle.scoped_names.specs.Reading.{◌>>◌}
 use Rattle.scoped_names.specs.Tests.{value_read}

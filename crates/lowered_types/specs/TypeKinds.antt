@@ -2,8 +2,8 @@
 use Rattle.std.specs.Prelude.{ℕ, nat_eq, if◌then◌else◌, Option, Some, None}
 use Rattle.type_graph.specs.declared.node.Node.{Node}
 use Rattle.type_graph.specs.declared.node.Node.TheVariants as Nodes
-use Rattle.const_values.specs.declared.kind.ConstKind.{ConstKind}
-use Rattle.const_values.specs.declared.kind.ConstKind.TheVariants as Kinds
+use Rattle.name_table.specs.declared.const_values.kind.ConstKind.{ConstKind}
+use Rattle.name_table.specs.declared.const_values.kind.ConstKind.TheVariants as Kinds
 use Rattle.lowered_types.specs.declared.fault.TypeKind.{TypeKind}
 use Rattle.lowered_types.specs.declared.fault.TypeKind.TheVariants.{Integer, Char, Boolean, Octet, Enum, String, Sequence, Array, Struct, Union, Object}
 

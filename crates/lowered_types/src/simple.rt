@@ -14,6 +14,7 @@ use idl_tree::names::{At, Leaf, Listed};
 use idl_tree::types::{ConstType, Declarator, EnumType, ParamType, SimpleType};
 use scoped_names::{Names, Scope};
 use std::alloc::{AllocError, Global};
+use type_graph::basic_types;
 use type_graph::{GraphLimit, Items, Node};
 use type_model::Name;
 

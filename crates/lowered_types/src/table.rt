@@ -8,11 +8,12 @@ ghost use Rattle.lowered_types.specs.Lowered.{added, added_at, already, counted,
 use crate::fault::{BuildFault, at_most};
 use crate::place::Place;
 use crate::readings::resolved;
-use basic_types::basic_nodes;
+use type_graph::basic_types::basic_nodes;
 use idl_tree::names::{At, ScopedName};
 use scoped_names::{Names, Scope};
 use std::alloc::{AllocError, Global};
 use std::marker::Model;
+use type_graph::basic_types;
 use type_graph::{GraphLimit, Items, Members, Node};
 use type_model::Name;
 use type_paths::NodeSites;

@@ -4,3 +4,7 @@ pub mod OpenRuns
 pub mod Outputs
 pub mod Tellings
 pub mod Unread
+pub mod Backlogs
+pub mod Follows
+pub mod Forms
+pub mod Refusal

@@ -1,9 +1,9 @@
 -- What of the octets of a connection waits to be told, and the lines that tell it.
 use Rattle.std.specs.Prelude.{◌≡◌, ℕ, ◌<◌, ◌≤◌, List, [], ◌∷◌, ◌++◌, length, drop}
 use Rattle.std.specs.Fmt.{decimal}
-use Rattle.captures.specs.declared.follow.Side.{Side}
-use Rattle.captures.specs.declared.follow.Side.TheVariants.{First, Second}
-use Rattle.captures.specs.Backlogs.{behind}
+use Rattle.message_dumps.specs.declared.captures.follow.Side.{Side}
+use Rattle.message_dumps.specs.declared.captures.follow.Side.TheVariants.{First, Second}
+use Rattle.message_dumps.specs.Backlogs.{behind}
 use Rattle.message_dumps.specs.declared.direction.Direction.{Direction}
 use Rattle.message_dumps.specs.declared.direction.Raw.{Raw}
 use Rattle.message_dumps.specs.declared.direction.Raw.TheVariants.{No}

@@ -1,7 +1,7 @@
 -- What is told at the front of the octets of a direction.
 use Rattle.std.specs.Prelude.{◌≡◌, ℕ, ◌-◌, ◌<◌, ◌≤◌, List, ◌++◌, length, take, min, nat_lt, if◌then◌else◌, Option, Some, None}
 use Rattle.std.specs.String.{string_bytes}
-use Rattle.captures.specs.declared.follow.Side.{Side}
+use Rattle.message_dumps.specs.declared.captures.follow.Side.{Side}
 use Rattle.message_dumps.specs.declared.direction.Raw.{Raw}
 use Rattle.message_dumps.specs.declared.direction.Raw.TheVariants.{No, Next, All}
 use Rattle.message_dumps.specs.declared.front.Front.{Front}

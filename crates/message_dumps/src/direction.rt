@@ -4,7 +4,7 @@ ghost use Rattle.std.specs.Prelude.{◌≡◌};
 ghost use Rattle.message_dumps.specs.Lines.{fresh, waiting_of};
 
 use crate::open_runs::OpenRuns;
-use captures::Backlog;
+use crate::captures::Backlog;
 use std::alloc::Global;
 
 /// How many of the next octets are none of a message that is read.

@@ -9,7 +9,7 @@ use crate::direction::{Direction, Raw};
 use crate::front::{Front, front_in};
 use crate::told::{Told, told_end, told_front};
 use crate::words::Words;
-use captures::Side;
+use crate::captures::Side;
 use std::alloc::{AllocError, Global};
 use std::marker::Model;
 

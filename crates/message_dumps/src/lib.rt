@@ -3,6 +3,7 @@
 #![tactic(auto)]
 
 mod capture;
+pub mod captures;
 mod digits;
 mod direction;
 mod dump;

@@ -10,7 +10,7 @@ use crate::fault::{CutShort, DumpFault};
 use crate::patience::Patience;
 use crate::source::Source;
 use crate::words::Words;
-use captures::Side;
+use crate::captures::Side;
 use std::alloc::{AllocError, Global};
 use std::io::{Read, Write};
 

@@ -9,7 +9,7 @@ use crate::fault::{CutShort, DumpFault};
 use crate::patience::Patience;
 use crate::source::Source;
 use crate::words::Words;
-use captures::{Backlog, CaptureFault, Side, Stage, follow_line};
+use crate::captures::{Backlog, CaptureFault, Side, Stage, follow_line};
 use memchr::memchr;
 use std::alloc::{AllocError, Global};
 use std::io::{Read, Write};

@@ -13,7 +13,7 @@ use crate::open::{OpenMessage, begins};
 use crate::open_runs::{OpenRuns, unfinished};
 use crate::unread::Unread;
 use crate::words::Words;
-use captures::Side;
+use crate::captures::Side;
 use giop_messages::message_id;
 use std::alloc::{AllocError, Global};
 

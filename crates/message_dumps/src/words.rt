@@ -2,9 +2,9 @@
 
 ghost use Rattle.std.specs.Prelude.{◌≤◌, ℕ, List, length, IfOk};
 ghost use Rattle.std.specs.String.{string_bytes};
-ghost use Rattle.captures.specs.declared.follow.Side.{Side};
+ghost use Rattle.message_dumps.specs.declared.captures.follow.Side.{Side};
 
-use captures::Side;
+use crate::captures::Side;
 use std::alloc::{AllocError, Global};
 
 /// The words of whole messages of GIOP 1.2, whose fragments are joined. They are asked for in the order in

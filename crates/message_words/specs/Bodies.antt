@@ -2,11 +2,11 @@
 use Rattle.std.specs.Prelude.{◌≡◌, ◌≢◌, ℕ, false, true, List, slice_get, codes}
 use Rattle.std.specs.String.{string_bytes}
 use Rattle.type_model.specs.ModelRules.{Parts}
-use Rattle.called_operations.specs.Operations.{has_name}
+use Rattle.type_model.specs.Operations.{has_name}
 use Rattle.giop_messages.specs.Messages.{Answered}
-use Rattle.call_texts.specs.Outcomes.{Called, IsOutcome}
-use Rattle.call_texts.specs.declared.outcome.Outcome.{Outcome}
-use Rattle.call_texts.specs.declared.outcome.Outcome.TheVariants.{Returned, Raised, Failed, Forwarded, Readdressed}
+use Rattle.text_commands.specs.Outcomes.{Called, IsOutcome}
+use Rattle.text_commands.specs.declared.call_texts.outcome.Outcome.{Outcome}
+use Rattle.text_commands.specs.declared.call_texts.outcome.Outcome.TheVariants.{Returned, Raised, Failed, Forwarded, Readdressed}
 use Rattle.message_words.specs.declared.names.Named.{Named}
 use Rattle.message_words.specs.declared.names.Named.TheVariants.{OfTable, IsA, NonExistent, Unknown}
 

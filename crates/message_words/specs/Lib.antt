@@ -1,3 +1,4 @@
 pub mod Bodies
 pub mod Requests
 pub mod Said
+pub mod Faults

@@ -4,16 +4,16 @@ ghost use Rattle.std.specs.Prelude.{IfOk, IfSome, IfNone};
 ghost use Rattle.std.specs.String.{string_bytes};
 ghost use Rattle.type_model.specs.Names.{IsNamed};
 ghost use Rattle.giop_messages.specs.Messages.{answered_of};
-ghost use Rattle.call_texts.specs.Bodies.{HasNoValue, IsTextOfBody};
-ghost use Rattle.call_texts.specs.Outcomes.{HasNoOutcome, called};
+ghost use Rattle.text_commands.specs.Bodies.{HasNoValue, IsTextOfBody};
+ghost use Rattle.text_commands.specs.Outcomes.{HasNoOutcome, called};
 ghost use Rattle.message_words.specs.Bodies.{IsTextOfReply, Shows};
 
 use crate::frames::{Frames, Types};
 use crate::quoted::Quoted;
-use call_texts::{Outcome, read_outcome};
+use text_commands::call_texts::{Outcome, read_outcome};
 use giop::{Reply, ReplyStatus, Request};
 use object_references::{Ior, ReferenceFault, ior_to_text};
-use reply_bodies::SystemException;
+use giop::reply_bodies::SystemException;
 use std::alloc::{AllocError, Global};
 
 /// The text of the arguments with which the body of a request begins; none where it begins with none of

@@ -3,6 +3,7 @@
 
 mod asked;
 mod body;
+pub mod dump_commands;
 mod frames;
 mod message;
 mod names;

@@ -1,7 +1,7 @@
 //! Operations by the names that requests have.
 
 ghost use Rattle.std.specs.Prelude.{◌≡◌, slice_get, true, IfOk, MatchOption};
-ghost use Rattle.called_operations.specs.Operations.{has_name};
+ghost use Rattle.type_model.specs.Operations.{has_name};
 ghost use Rattle.message_words.specs.Bodies.{HasNone, IsCalled};
 
 use crate::frames::Types;

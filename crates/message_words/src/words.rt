@@ -5,7 +5,7 @@ ghost use Rattle.std.specs.Prelude.{◌≤◌, length};
 use crate::asked::Requests;
 use crate::frames::Types;
 use crate::message::whole_lines;
-use captures::Side;
+use message_dumps::captures::Side;
 use giop_messages::message_id;
 use message_dumps::Words;
 use std::alloc::{AllocError, Global};

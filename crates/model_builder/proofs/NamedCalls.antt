@@ -21,7 +21,7 @@ use Rattle.scoped_names.specs.Introductions.{introduced}
 use Rattle.name_steps.specs.Steps.{DeclaresFeature, Enters, HasMember, Leaves as LeavesScope, operation_steps, optional_parts, param_steps, param_type_steps, raises_steps, result_steps}
 use Rattle.name_steps.proofs.Asks.{param_asks, param_type_asks, result_asks}
 use Rattle.scoped_names.proofs.Parts.{Closed, both_closed, closed, each_closed, one_closed}
-use Rattle.part_names.specs.Names.{AreApart}
+use Rattle.type_model.specs.PartNamesNames.{AreApart}
 use Rattle.lowered_types.specs.declared.place.Place.{Place}
 use Rattle.lowered_types.specs.declared.place.Place.TheVariants.{Called, Got, GotAndSet}
 use Rattle.lowered_types.specs.Faults.{each}

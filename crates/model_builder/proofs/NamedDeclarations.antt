@@ -25,7 +25,7 @@ use Rattle.scoped_names.specs.Introductions.{Introduction, introduced}
 use Rattle.name_steps.specs.Steps.{Declares, Enters, Leaves as LeavesScope, declaration_steps, declarator_steps, except_steps, member_steps, type_dcl_steps, type_steps, typedef_steps}
 use Rattle.name_steps.proofs.Asks.{member_asks}
 use Rattle.scoped_names.proofs.Parts.{Closed, closed, each_closed}
-use Rattle.part_names.specs.Names.{AreApart}
+use Rattle.type_model.specs.PartNamesNames.{AreApart}
 use Rattle.lowered_types.specs.declared.place.Place.TheVariants.{Typed}
 use Rattle.lowered_types.specs.Faults.{each}
 use Rattle.lowered_types.specs.Lowered.{Lowered, added, already, counted, opened}

@@ -5,7 +5,7 @@ use Rattle.std.specs.Prelude.{if◌then◌else◌, nat_eq, nat_lt, slice_set}
 use Rattle.std.specs.List.{AllByRecursion, flat_map}
 use Rattle.std.proofs.lemmas.List.Elements.{All-from_recursion}
 use Rattle.std.proofs.lemmas.Option.{slice_get_within}
-use Rattle.basic_types.specs.BasicNodes.{basic_nodes}
+use Rattle.type_graph.specs.BasicNodes.{basic_nodes}
 use Rattle.idl_tree.specs.declared.definitions.Declaration.{Declaration}
 use Rattle.idl_tree.specs.declared.definitions.Export.{Export}
 use Rattle.idl_tree.specs.declared.definitions.Export.TheVariants as Exports
@@ -20,7 +20,7 @@ use Rattle.name_steps.specs.Steps.{Declares, Defines, Enters, HasBase, IsUndefin
 use Rattle.name_steps.proofs.Asks.{bases_ask, definition_asks, definitions_ask, export_asks}
 use Rattle.scoped_names.specs.FileNames.{AreNames, FileNames}
 use Rattle.scoped_names.proofs.Parts.{Closed, both_closed, closed, each_closed, one_closed}
-use Rattle.part_names.specs.Names.{AreApart, names_at, or_none}
+use Rattle.type_model.specs.PartNamesNames.{AreApart, names_at, or_none}
 use Rattle.lowered_types.specs.declared.fault.BuildFault.{BuildFault}
 use Rattle.lowered_types.specs.declared.fault.BuildFault.TheVariants.{OtherNames}
 use Rattle.lowered_types.specs.declared.place.Place.{Place}

@@ -4,7 +4,7 @@ use Rattle.std.specs.Prelude.{if◌then◌else◌, nat_lt, slice_get, slice_set,
 use Rattle.std.specs.List.{AllByRecursion, IsDistinct}
 use Rattle.std.proofs.lemmas.List.{length-set}
 use Rattle.std.proofs.lemmas.Option.{slice_get_within}
-use Rattle.basic_types.specs.BasicNodes.{basic_nodes}
+use Rattle.type_graph.specs.BasicNodes.{basic_nodes}
 use Rattle.idl_tree.specs.declared.names.At.{At}
 use Rattle.type_graph.specs.declared.fault.GraphLimit.{GraphLimit}
 use Rattle.type_graph.specs.declared.fault.GraphLimit.TheVariants.{Nodes, AllMembers}
@@ -12,7 +12,7 @@ use Rattle.type_graph.specs.declared.node.Node.{Node}
 use Rattle.type_graph.specs.declared.node.Node.TheVariants.{Struct}
 use Rattle.type_paths.specs.Sites.{Sites}
 use Rattle.scoped_names.specs.Reading.{◌>>◌}
-use Rattle.part_names.specs.Names.{AreApart}
+use Rattle.type_model.specs.PartNamesNames.{AreApart}
 use Rattle.lowered_types.specs.declared.fault.BuildFault.{BuildFault}
 use Rattle.lowered_types.specs.declared.fault.BuildFault.TheVariants.{OtherNames}
 use Rattle.lowered_types.specs.declared.place.Place.{Place}

@@ -29,7 +29,7 @@ use Rattle.name_steps.specs.Steps.{cases_steps, declarator_steps, enum_steps, la
 use Rattle.name_steps.proofs.Asks.{cases_ask, members_ask, switch_asks}
 use Rattle.scoped_names.specs.Introductions.{introduced}
 use Rattle.scoped_names.proofs.Parts.{Closed, both_closed, closed}
-use Rattle.part_names.specs.Names.{AreApart}
+use Rattle.type_model.specs.PartNamesNames.{AreApart}
 use Rattle.lowered_types.specs.declared.fault.BuildFault.{BuildFault}
 use Rattle.lowered_types.specs.Faults.{at_most, each, max_enumerators, max_members}
 use Rattle.lowered_types.specs.Members.{Members}

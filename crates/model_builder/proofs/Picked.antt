@@ -8,7 +8,7 @@ use Rattle.idl_tree.specs.declared.names.Leaf.{Leaf}
 use Rattle.idl_tree.specs.declared.kinds.EntryKind.TheVariants as Kinds
 use Rattle.name_table.specs.Search.{word}
 use Rattle.scoped_names.specs.Introductions.{Introduction, Stands, Has, clashes, is_one_name}
-use Rattle.part_names.specs.Names.{AreApart}
+use Rattle.type_model.specs.PartNamesNames.{AreApart}
 
 -- ---- lists
 

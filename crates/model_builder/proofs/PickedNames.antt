@@ -21,7 +21,7 @@ use Rattle.name_steps.proofs.Asks.{declarator_asks, label_asks, type_asks}
 use Rattle.scoped_names.proofs.Parts.{Closed, both_closed, closed, each_closed, one_closed}
 use Rattle.lowered_types.specs.Faults.{or_other}
 use Rattle.lowered_types.specs.SimpleTypes.{declarator_name, entry_of}
-use Rattle.part_names.specs.Names.{AreApart}
+use Rattle.type_model.specs.PartNamesNames.{AreApart}
 use Rattle.model_builder.proofs.Good.{Good, good_both, good_inside, good_tail, good_walk}
 use Rattle.model_builder.proofs.Picked.{Picked, picked_apart, picked_behind, picked_both, stands_apart, stands_enumerator}
 

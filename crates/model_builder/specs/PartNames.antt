@@ -2,7 +2,7 @@
 use Rattle.std.specs.Prelude.{◌≡◌, ◌+◌, ◌<◌, ◌≤◌, ℕ, List, [], length, option_to_list, slice_get, Some}
 use Rattle.type_graph.specs.declared.node.Node.{Node}
 use Rattle.type_graph.specs.declared.node.Node.TheVariants.{Struct, Union, Enum, Frame}
-use Rattle.part_names.specs.Names.{names_at}
+use Rattle.type_model.specs.PartNamesNames.{names_at}
 
 -- So many names stand for the parts of a node (ISO/IEC 19500-1, type declaration): the members of a structure, the
 -- enumerators of an enumeration, what a request, a reply or an exception carries. A graph has the labels of a union in

@@ -9,7 +9,7 @@ ghost use Rattle.scoped_names.specs.FileNames.{AreNames, FileNames};
 ghost use Rattle.lowered_types.specs.declared.fault.TypeFault.{TypeFault};
 ghost use Rattle.lowered_operations.specs.Definitions.{defined_by};
 ghost use Rattle.lowered_operations.specs.Operations.{Defined};
-ghost use Rattle.part_names.specs.Names.{AreApart};
+ghost use Rattle.type_model.specs.PartNamesNames.{AreApart};
 ghost use Rattle.model_builder.specs.Ascii.{HasAsciiTexts};
 ghost use Rattle.model_builder.specs.Faults.{IsFault};
 ghost use Rattle.model_builder.specs.PartNames.{AreOneForOne};

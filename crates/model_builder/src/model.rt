@@ -12,7 +12,7 @@ use crate::paths::{check_paths, graph_of};
 use crate::signatures::{exceptions_of, interfaces_of, operations_of};
 use lowered_operations::{Offered, Signature};
 use lowered_types::TypeTable;
-use part_names::PartNames;
+use type_model::part_names::PartNames;
 use scoped_names::Names;
 use std::alloc::Global;
 use type_graph::{GraphFault, Items};

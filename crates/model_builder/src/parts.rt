@@ -1,9 +1,9 @@
 //! The names of the parts of nodes.
 
 ghost use Rattle.std.specs.Prelude.{◌≡◌, All, IfOk};
-ghost use Rattle.part_names.specs.Names.{AreApart};
+ghost use Rattle.type_model.specs.PartNamesNames.{AreApart};
 
-use part_names::{NodeNames, PartNames};
+use type_model::part_names::{NodeNames, PartNames};
 use std::alloc::{AllocError, Global};
 use type_graph::Items;
 use type_model::Name;

@@ -13,3 +13,5 @@ pub mod WaysKept
 pub mod Features
 pub mod Bare
 pub mod Worked
+pub mod ConstValuesWorked
+pub mod TextForms

@@ -3,8 +3,8 @@
 use Rattle.std.specs.List.{IsDistinct}
 use Rattle.std.specs.Prelude.{◌≡◌, ◌≤◌, ℕ, zero, suc, Bool, ◌&&◌, nat_eq, List, [], position, slice_get, Option, Some, None}
 use Rattle.idl_lexer.specs.Words.{same_but_for_case}
-use Rattle.const_values.specs.declared.constant.Constant.{Constant}
-use Rattle.const_values.specs.declared.kind.ConstKind.{ConstKind}
+use Rattle.name_table.specs.declared.const_values.constant.Constant.{Constant}
+use Rattle.name_table.specs.declared.const_values.kind.ConstKind.{ConstKind}
 use Rattle.idl_tree.specs.declared.kinds.EntryKind.{EntryKind}
 use Rattle.name_table.specs.declared.entry.Base.{Base}
 

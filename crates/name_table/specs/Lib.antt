@@ -5,3 +5,7 @@ pub mod Entries
 pub mod OwnNames
 pub mod Features
 pub mod inner
+pub mod Arithmetic
+pub mod Texts
+pub mod Worth
+pub mod Kinds

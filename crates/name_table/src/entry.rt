@@ -5,7 +5,7 @@ ghost use Rattle.name_table.specs.Entries.{plain as plain_meaning};
 ghost use Rattle.name_table.specs.OwnNames.{keeps_its_name as keeps_name};
 ghost use Rattle.name_table.specs.Features.{feature_meant, is_feature, no_token};
 
-use const_values::{ConstKind, Constant};
+use crate::const_values::{ConstKind, Constant};
 use idl_tree::kinds::EntryKind;
 
 /// Whether the name of what has a scope isn't declared directly in it. A parameter may have the

@@ -3,6 +3,7 @@
 #![tactic(auto)]
 
 mod bases;
+pub mod const_values;
 pub mod entry;
 pub mod key;
 pub mod numbered;

@@ -9,7 +9,7 @@ ghost use Rattle.name_table.specs.inner.Records.{entry_of, given_before, is_word
 use crate::entry::{Base, feature_token, keeps_its_name};
 use crate::key::{Key, Word};
 use crate::search::Found;
-use const_values::{ConstKind, Constant};
+use crate::const_values::{ConstKind, Constant};
 use idl_tree::kinds::EntryKind;
 use std::alloc::{AllocError, Global};
 use std::collections::BTreeMap;

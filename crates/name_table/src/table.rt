@@ -17,7 +17,7 @@ use crate::record::{Heir, Record, known_of};
 use crate::scope::Scope;
 use crate::search::{Found, Sight};
 use crate::shortcuts::{Place, SearchStep, Shortcut, drop_way};
-use const_values::{ConstKind, Constant};
+use crate::const_values::{ConstKind, Constant};
 use idl_lexer::{Identifiers, is_rooted};
 use idl_tree::kinds::EntryKind;
 use idl_tree::names::{Leaf, ScopedName, unescaped};

@@ -10,7 +10,7 @@ ghost use Rattle.named_tables.specs.Loaded.{IsHeldBy, IsLoaded, IsNotHeld, IsNot
 
 use crate::fault::NamedFault;
 use idl_compiler::compile_source;
-use part_names::PartNames;
+use type_model::part_names::PartNames;
 use position_checker::Accepted;
 use std::alloc::{AllocError, Global};
 use table_commands::{SAMPLE, WholeFiles, accepted, read_file, sample};

@@ -11,3 +11,5 @@ pub mod ProfileLaws
 pub mod TextLaws
 pub mod Cleaning
 pub mod Gaps
+pub mod Keys
+pub mod Ports

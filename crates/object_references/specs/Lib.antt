@@ -5,3 +5,6 @@ pub mod Profiles
 pub mod Texts
 pub mod Refusal
 pub mod inner
+pub mod Places
+pub mod CorbalocRefusal
+pub mod Views

@@ -1,6 +1,7 @@
 //! Object references: their texts, and the profiles of IIOP that say where an object is.
 #![tactic(auto)]
 
+pub mod corbaloc;
 mod encapsulation;
 mod fault;
 mod iiop;

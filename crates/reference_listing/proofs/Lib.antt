@@ -2,3 +2,8 @@ pub mod Shapes
 pub mod Splits
 pub mod Fronts
 pub mod Rows
+pub mod Faults
+pub mod Once
+pub mod LineLists
+pub mod Texts
+pub mod Manners

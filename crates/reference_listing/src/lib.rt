@@ -5,6 +5,7 @@
 mod body;
 mod list;
 mod listing;
+pub mod spelled_references;
 mod tape;
 
 pub use body::iiop_profile;

@@ -11,7 +11,7 @@ use Rattle.idl_tree.specs.declared.names.Leaf.{Leaf}
 use Rattle.idl_tree.specs.declared.names.ScopedName.{ScopedName}
 use Rattle.idl_tree.specs.declared.definitions.Const.{Const}
 use Rattle.idl_tree.specs.Starts.{name_start, leaf_at as at}
-use Rattle.const_values.specs.declared.constant.Constant.{Constant}
+use Rattle.name_table.specs.declared.const_values.constant.Constant.{Constant}
 use Rattle.name_table.specs.declared.entry.Base.{Base}
 use Rattle.idl_tree.specs.declared.kinds.EntryKind.{EntryKind}
 use Rattle.idl_tree.specs.declared.kinds.EntryKind.TheVariants as Entries

@@ -7,8 +7,8 @@ use Rattle.idl_tree.specs.declared.const_expr.Bound.{Bound}
 use Rattle.idl_tree.specs.declared.types.ConstType.{ConstType}
 use Rattle.idl_tree.specs.declared.types.ConstType.TheVariants as ConstTypes
 use Rattle.idl_tree.specs.Starts.{expr_start, name_start, leaf_at as at}
-use Rattle.const_values.specs.declared.kind.ConstKind.TheVariants as Kinds
-use Rattle.const_values.specs.Worth.{chain_worth, operator_applied, positive, sign_applied, whole_constant, whole_number, worth}
+use Rattle.name_table.specs.declared.const_values.kind.ConstKind.TheVariants as Kinds
+use Rattle.name_table.specs.Worth.{chain_worth, operator_applied, positive, sign_applied, whole_constant, whole_number, worth}
 use Rattle.idl_tree.specs.declared.kinds.EntryKind.{EntryKind}
 use Rattle.name_table.specs.declared.search.Sight.{Sight}
 use Rattle.name_table.specs.declared.search.Sight.TheVariants.{Unseen, OtherCase, Unclear, Seen}

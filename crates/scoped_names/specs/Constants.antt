@@ -3,10 +3,10 @@ use Rattle.std.specs.Prelude.{ℕ, nat_lt, cond, length, List, Option, Some, Non
 use Rattle.idl_tree.specs.declared.names.ScopedName.{ScopedName}
 use Rattle.idl_tree.specs.declared.expression.Expr.{Expr}
 use Rattle.idl_tree.specs.declared.types.Declarator.{Declarator}
-use Rattle.const_values.specs.declared.constant.Constant.{Constant}
-use Rattle.const_values.specs.declared.kind.ConstKind.{ConstKind}
-use Rattle.const_values.specs.Kinds.{of_kind}
-use Rattle.const_values.specs.Worth.{worth, whole_number, positive}
+use Rattle.name_table.specs.declared.const_values.constant.Constant.{Constant}
+use Rattle.name_table.specs.declared.const_values.kind.ConstKind.{ConstKind}
+use Rattle.name_table.specs.Kinds.{of_kind}
+use Rattle.name_table.specs.Worth.{worth, whole_number, positive}
 use Rattle.name_table.specs.Entry.{Entry, worth_in, meant_in}
 use Rattle.name_table.specs.declared.search.Found.{Found}
 use Rattle.name_table.specs.declared.search.Found.TheVariants.{Nothing, One, Several}

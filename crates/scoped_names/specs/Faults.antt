@@ -13,8 +13,8 @@ use Rattle.idl_tree.specs.declared.types.TypeSpec.{TypeSpec, Simple, Struct as S
 use Rattle.idl_tree.specs.declared.definitions.Const.{Const}
 use Rattle.idl_tree.specs.declared.definitions.Definition.{Definition}
 use Rattle.idl_tree.specs.Starts.{name_start, leaf_at as at}
-use Rattle.const_values.specs.declared.kind.ConstKind.{ConstKind}
-use Rattle.const_values.specs.declared.kind.ConstKind.TheVariants as Kinds
+use Rattle.name_table.specs.declared.const_values.kind.ConstKind.{ConstKind}
+use Rattle.name_table.specs.declared.const_values.kind.ConstKind.TheVariants as Kinds
 use Rattle.idl_tree.specs.declared.kinds.EntryKind.{EntryKind}
 use Rattle.idl_tree.specs.declared.kinds.EntryKind.TheVariants as Entries
 use Rattle.name_table.specs.declared.entry.Base.{Base}

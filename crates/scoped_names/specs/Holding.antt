@@ -1,7 +1,7 @@
 -- What a specification asks of its names, over the entries of the whole (ISO/IEC 19500-1, names and scoping).
 use Rattle.std.specs.Prelude.{◌≡◌, ℕ, List, [], ◌∷◌, Ok, Some}
 use Rattle.std.specs.List.{AllByRecursion}
-use Rattle.const_values.specs.declared.constant.Constant.{Constant}
+use Rattle.name_table.specs.declared.const_values.constant.Constant.{Constant}
 use Rattle.name_table.specs.Entry.{Entry, named, worth_in}
 use Rattle.name_table.specs.Search.{word}
 use Rattle.scoped_names.specs.Faults.{entry_in, is_interface}

@@ -7,10 +7,10 @@ use Rattle.idl_tree.specs.Yields.{const_expr_yield}
 use Rattle.idl_tree.specs.declared.kinds.EntryKind.TheVariants.{Enum, Enumerator, Typedef, Const as Const'}
 use Rattle.name_table.specs.declared.entry.Meaning.{Meaning}
 use Rattle.scoped_names.specs.Constants.{declarator_kind}
-use Rattle.const_values.specs.declared.constant.Constant.{Constant}
-use Rattle.const_values.specs.declared.constant.Constant.TheVariants as Constants
-use Rattle.const_values.specs.declared.kind.ConstKind.{ConstKind}
-use Rattle.const_values.specs.declared.kind.ConstKind.TheVariants as Kinds
+use Rattle.name_table.specs.declared.const_values.constant.Constant.{Constant}
+use Rattle.name_table.specs.declared.const_values.constant.Constant.TheVariants as Constants
+use Rattle.name_table.specs.declared.const_values.kind.ConstKind.{ConstKind}
+use Rattle.name_table.specs.declared.const_values.kind.ConstKind.TheVariants as Kinds
 
 -- a name for a type that is in the end of the kind, if it is a type of constants
 abbrev pub typedef_meant : Option ConstKind → Declarator → Meaning

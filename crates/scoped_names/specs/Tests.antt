@@ -6,9 +6,9 @@ use Rattle.idl_tree.specs.declared.names.ScopedName.{ScopedName}
 use Rattle.idl_tree.specs.declared.expression.Expr.{Expr, Name, Number, Character, Text, Boolean, Parenthesized', Signed', Chain', Row_of-Operand, end_of-Operand, more_of-Operand}
 use Rattle.idl_tree.specs.declared.expression.Operand.{Operand}
 use Rattle.idl_tree.specs.Starts.{expr_start, leaf_at as at, name_start}
-use Rattle.const_values.specs.declared.constant.Constant.{Constant}
-use Rattle.const_values.specs.declared.kind.ConstKind.{ConstKind}
-use Rattle.const_values.specs.Worth.{whole_number, positive}
+use Rattle.name_table.specs.declared.const_values.constant.Constant.{Constant}
+use Rattle.name_table.specs.declared.const_values.kind.ConstKind.{ConstKind}
+use Rattle.name_table.specs.Worth.{whole_number, positive}
 use Rattle.idl_tree.specs.declared.kinds.EntryKind.{EntryKind}
 use Rattle.idl_tree.specs.declared.kinds.EntryKind.TheVariants.{Module, Interface, Struct, Union, Enum, Enumerator, Typedef, Const, Exception, Operation, Attribute}
 use Rattle.idl_tree.specs.declared.names.At.{At}

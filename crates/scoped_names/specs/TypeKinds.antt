@@ -6,8 +6,8 @@ use Rattle.idl_tree.specs.declared.types.ConstType.TheVariants as ConstTypes
 use Rattle.idl_tree.specs.declared.types.ParamType.{ParamType}
 use Rattle.idl_tree.specs.declared.types.ParamType.TheVariants as ParamTypes
 use Rattle.idl_tree.specs.declared.types.SimpleType.{SimpleType, Plain, Sequence'}
-use Rattle.const_values.specs.declared.kind.ConstKind.{ConstKind}
-use Rattle.const_values.specs.declared.kind.ConstKind.TheVariants as Kinds
+use Rattle.name_table.specs.declared.const_values.kind.ConstKind.{ConstKind}
+use Rattle.name_table.specs.declared.const_values.kind.ConstKind.TheVariants as Kinds
 use Rattle.name_table.specs.Entry.{Entry}
 use Rattle.name_table.specs.Search.{finds}
 use Rattle.scoped_names.specs.declared.fault.NameFault.{NameFault}

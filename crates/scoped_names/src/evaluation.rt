@@ -1,13 +1,13 @@
 //! What constant expressions are worth where names are found by their scope.
 
 ghost use Rattle.std.specs.Prelude.{◌≡◌, ◌≤◌, ◌<◌, length, slice_get, IfOk};
-ghost use Rattle.const_values.specs.Worth.{operator_applied, sign_applied, whole_constant, whole_number, worth};
+ghost use Rattle.name_table.specs.Worth.{operator_applied, sign_applied, whole_constant, whole_number, worth};
 ghost use Rattle.scoped_names.specs.Constants.{named_worth};
 ghost use Rattle.scoped_names.specs.Reading.{Checks, Gives};
 ghost use Rattle.scoped_names.specs.Tests.{at_entry, constant_test, found_at as found_at_place, names_test, resolved, size_read, value_of_type, value_read};
 
 use crate::fault::{Flaw, NameFault};
-use const_values::{ConstKind, Constant, applied, literal_constant, signed, text_constant};
+use name_table::const_values::{ConstKind, Constant, applied, literal_constant, signed, text_constant};
 use idl_tree::expression::{Expr, Operator, Sign};
 use idl_tree::names::{At, ScopedName};
 use name_table::{Scope, Sight, Table};

@@ -12,7 +12,7 @@ ghost use Rattle.name_table.specs.Search.{Finds, word};
 use crate::evaluation::{resolve, size, value};
 use crate::fault::NameFault;
 use crate::repository_ids::{IdPragmas, path_to};
-use const_values::{ConstKind, Constant};
+use name_table::const_values::{ConstKind, Constant};
 use idl_tree::expression::Expr;
 use idl_tree::kinds::EntryKind;
 use idl_tree::names::{Leaf, ScopedName};

@@ -18,7 +18,7 @@ use crate::fault::NameFault;
 use crate::kinds::{const_type_kind, simple_type_kind};
 use crate::reader::Reader;
 use crate::repository_ids::PragmaId;
-use const_values::{ConstKind, Constant};
+use name_table::const_values::{ConstKind, Constant};
 use idl_lexer::{Kind, Pragma};
 use idl_tree::definitions::{Const, Definition, Module};
 use idl_tree::kinds::EntryKind;

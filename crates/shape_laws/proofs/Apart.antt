@@ -2,7 +2,7 @@
 use Rattle.std.proofs.Common.{◌≡◌, ℕ, true, false, List, [], ap, sym, ◌∙◌}
 use Rattle.std.specs.Str.{bytes_eq}
 use Rattle.std.proofs.lemmas.Slice.Eq.{bytes_eq-Decides}
-use Rattle.tree_laws.specs.Shapes.{Shape, Nothing, Token, Kind, Both}
+use Rattle.idl_tree.specs.Shapes.{Shape, Nothing, Token, Kind, Both}
 
 kind_in : Shape → List ℕ
 kind_in Nothing = []

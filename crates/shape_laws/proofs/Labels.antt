@@ -6,7 +6,7 @@ use Rattle.idl_tree.specs.declared.types.Label.{Label}
 use Rattle.idl_tree.specs.declared.types.Label.TheVariants as Labels
 use Rattle.idl_tree.specs.declared.types.SwitchType.{SwitchType}
 use Rattle.idl_tree.specs.declared.types.SwitchType.TheVariants as SwitchTypes
-use Rattle.const_values.specs.declared.kind.ConstKind.TheVariants as Kinds
+use Rattle.name_table.specs.declared.const_values.kind.ConstKind.TheVariants as Kinds
 use Rattle.name_table.specs.Entry.{Entry, meant_in}
 use Rattle.scoped_names.specs.Reading.{◌>>◌}
 use Rattle.lowered_types.specs.Faults.{of_names}
@@ -14,8 +14,8 @@ use Rattle.lowered_types.specs.TypeKinds.{kind_of}
 use Rattle.lowered_types.specs.Lowered.{Lowered, already}
 use Rattle.lowered_types.specs.Labels.{switch_type, switch_kind, values_of, switch_of, switched, switch_at, switch_read, label_number, label_within, label_value, Arms, CaseLabels, value_added, default_added, label_added}
 use Rattle.lowered_types.specs.SimpleTypes.{integer_number}
-use Rattle.tree_laws.specs.Shapes.{name_shape, const_expr_shape, expr_shape}
-use Rattle.tree_laws.specs.TypeShapes.{enum_shape, switch_shape, label_shape}
+use Rattle.idl_tree.specs.Shapes.{name_shape, const_expr_shape, expr_shape}
+use Rattle.idl_tree.specs.TypeShapes.{enum_shape, switch_shape, label_shape}
 use Rattle.shape_laws.proofs.Apart.{apart}
 use Rattle.shape_laws.proofs.NameTests.{integer_same, value_same}
 use Rattle.shape_laws.proofs.Starts.{leaf_same, token_at, name_at, expr_at}

@@ -27,9 +27,9 @@ use Rattle.lowered_types.specs.SimpleTypes.{const_type, declarator_at}
 use Rattle.lowered_types.specs.Labels.{Arms, label_added, no_arms, no_labels, with_case}
 use Rattle.lowered_types.specs.Types.{WithMembers, with_members_of, no_members, member_added, with_declarator, with_declarators, members_added, struct_defined, Cases, cases_of, case_added, union_defined, type_spec, struct_type, union_type, with_members, with_cases, with_member}
 use Rattle.lowered_types.specs.Declarations.{with_typedef, ahead, type_dcl, id_member, exception_added, except, declaration}
-use Rattle.tree_laws.specs.Shapes.{leaf_shape, list_shape, listed_shape}
-use Rattle.tree_laws.specs.TypeShapes.{declarator_shape, enum_shape, switch_shape, label_shape, type_shape, struct_shape, union_shape, members_shape, cases_shape, member_shape}
-use Rattle.tree_laws.specs.DefinitionShapes.{type_dcl_shape, const_shape, except_shape, declaration_shape}
+use Rattle.idl_tree.specs.Shapes.{leaf_shape, list_shape, listed_shape}
+use Rattle.idl_tree.specs.TypeShapes.{declarator_shape, enum_shape, switch_shape, label_shape, type_shape, struct_shape, union_shape, members_shape, cases_shape, member_shape}
+use Rattle.idl_tree.specs.DefinitionShapes.{type_dcl_shape, const_shape, except_shape, declaration_shape}
 use Rattle.shape_laws.proofs.Apart.{apart}
 use Rattle.shape_laws.proofs.Labels.{switch_same, label_same}
 use Rattle.shape_laws.proofs.PartLists.{each_same}

@@ -24,9 +24,9 @@ use Rattle.idl_tree.specs.declared.definitions.Interface.TheVariants.{Ahead, Def
 use Rattle.idl_tree.specs.declared.definitions.Definition.{Definition, Pragma, Declaration as Declared, Interface as InterfaceDcl, Module', Row_of-Definition, end_of-Definition, more_of-Definition}
 use Rattle.idl_tree.specs.declared.kinds.EntryKind.TheVariants as Kinds
 use Rattle.name_steps.specs.Steps.{Declares, IsNew, DeclaresConst, DeclaresFeature, HasMember, IsUndefined, HasBase, Enters, Defines, NamesException, Says, member_steps, typedef_steps, type_dcl_steps, const_steps, except_steps, declaration_steps, optional_parts, raises_steps, attributes_steps, attribute_steps, param_steps, result_steps, operation_steps, export_steps, interface_steps, definition_steps, definitions_steps, steps_of}
-use Rattle.tree_laws.specs.Shapes.{leaf_shape, optional_shape, listed_shape, name_shape, names_shape}
-use Rattle.tree_laws.specs.TypeShapes.{param_type_shape, declarator_shape, member_shape}
-use Rattle.tree_laws.specs.DefinitionShapes.{type_dcl_shape, const_shape, except_shape, declaration_shape, attributes_shape, attribute_shape, param_shape, operation_shape, export_shape, interface_shape, definition_shape, definitions_shape, spec_shape}
+use Rattle.idl_tree.specs.Shapes.{leaf_shape, optional_shape, listed_shape, name_shape, names_shape}
+use Rattle.idl_tree.specs.TypeShapes.{param_type_shape, declarator_shape, member_shape}
+use Rattle.idl_tree.specs.DefinitionShapes.{type_dcl_shape, const_shape, except_shape, declaration_shape, attributes_shape, attribute_shape, param_shape, operation_shape, export_shape, interface_shape, definition_shape, definitions_shape, spec_shape}
 use Rattle.shape_laws.proofs.Apart.{apart}
 use Rattle.shape_laws.proofs.NameStepShapes.{Alike, step_shape, none, led, single, joined, flat_alike, flat_parts, map_parts}
 use Rattle.shape_laws.proofs.NameSteps.{const_type_alike, param_type_alike, typedef_alike, type_alike, struct_alike, union_alike, enum_alike, member_alike, left}

@@ -28,9 +28,9 @@ use Rattle.scoped_names.specs.RepositoryIds.{pragma_for}
 use Rattle.scoped_names.specs.Tests.{at_entry, found_at, is_exception, is_type, resolved, value_of_type}
 use Rattle.scoped_names.specs.TypeKinds.{const_type_kind}
 use Rattle.scoped_names.specs.declared.fault.NameFault.TheVariants.{Collides, PrefixDiffers}
-use Rattle.tree_laws.specs.Shapes.{leaf_shape, name_shape}
-use Rattle.tree_laws.specs.TypeShapes.{type_shape, declarator_shape}
-use Rattle.tree_laws.specs.DefinitionShapes.{const_shape, spec_shape}
+use Rattle.idl_tree.specs.Shapes.{leaf_shape, name_shape}
+use Rattle.idl_tree.specs.TypeShapes.{type_shape, declarator_shape}
+use Rattle.idl_tree.specs.DefinitionShapes.{const_shape, spec_shape}
 use Rattle.shape_laws.proofs.Apart.{apart}
 use Rattle.shape_laws.proofs.Starts.{leaf_same, name_at}
 use Rattle.shape_laws.proofs.NameWords.{kind_text, leaf_number, word_same}

@@ -7,9 +7,9 @@ use Rattle.idl_tree.specs.declared.names.Listed.{Listed}
 use Rattle.idl_tree.specs.declared.kinds.EntryKind.{EntryKind}
 use Rattle.name_steps.specs.Steps.{Step}
 use Rattle.name_steps.specs.Steps as Told
-use Rattle.tree_laws.specs.Shapes.{Shape, leaf_shape, list_shape, listed_shape, name_shape, expr_shape}
-use Rattle.tree_laws.specs.TypeShapes.{type_shape, declarator_shape}
-use Rattle.tree_laws.specs.DefinitionShapes.{const_shape}
+use Rattle.idl_tree.specs.Shapes.{Shape, leaf_shape, list_shape, listed_shape, name_shape, expr_shape}
+use Rattle.idl_tree.specs.TypeShapes.{type_shape, declarator_shape}
+use Rattle.idl_tree.specs.DefinitionShapes.{const_shape}
 
 -- a step, of which each part is its shape
 pub data StepShape : Type 0 where

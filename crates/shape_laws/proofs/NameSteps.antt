@@ -24,8 +24,8 @@ use Rattle.idl_tree.specs.declared.types.Member.{Member}
 use Rattle.idl_tree.specs.declared.kinds.EntryKind.{EntryKind}
 use Rattle.idl_tree.specs.declared.kinds.EntryKind.TheVariants as Kinds
 use Rattle.name_steps.specs.Steps.{Declares, DeclaresEnum, DeclaresEnumerator, DeclaresTypedef, HasMember, Enters, Defines, Leaves, NamesType, HasWorth, IsSize, bound_steps, const_type_steps, param_type_steps, simple_type_steps, size_step, label_steps, typedef_steps, declarator_steps, enum_steps, switch_steps, opening, type_steps, struct_steps, union_steps, members_steps, cases_steps, member_steps}
-use Rattle.tree_laws.specs.Shapes.{leaf_shape, optional_shape, listed_shape, bound_shape, const_expr_shape}
-use Rattle.tree_laws.specs.TypeShapes.{const_type_shape, param_type_shape, simple_type_shape, declarator_shape, enum_shape, switch_shape, label_shape, type_shape, struct_shape, union_shape, members_shape, cases_shape, member_shape}
+use Rattle.idl_tree.specs.Shapes.{leaf_shape, optional_shape, listed_shape, bound_shape, const_expr_shape}
+use Rattle.idl_tree.specs.TypeShapes.{const_type_shape, param_type_shape, simple_type_shape, declarator_shape, enum_shape, switch_shape, label_shape, type_shape, struct_shape, union_shape, members_shape, cases_shape, member_shape}
 use Rattle.shape_laws.proofs.Apart.{apart}
 use Rattle.shape_laws.proofs.NameStepShapes.{Alike, step_shape, none, led, single, joined, flat_parts, map_alike, map_parts}
 

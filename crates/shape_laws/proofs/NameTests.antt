@@ -17,11 +17,11 @@ use Rattle.idl_tree.specs.declared.types.Declarator.{Declarator}
 use Rattle.idl_tree.specs.declared.definitions.Const.{Const}
 use Rattle.idl_tree.specs.declared.kinds.EntryKind.{EntryKind}
 use Rattle.idl_tree.specs.declared.kinds.EntryKind.TheVariants.{Enum, Enumerator, Typedef, Const as Const'}
-use Rattle.const_values.specs.Worth.{whole_number, positive}
-use Rattle.const_values.specs.declared.constant.Constant.{Constant}
-use Rattle.const_values.specs.declared.constant.Constant.TheVariants as Constants
-use Rattle.const_values.specs.declared.kind.ConstKind.{ConstKind}
-use Rattle.const_values.specs.declared.kind.ConstKind.TheVariants as Kinds
+use Rattle.name_table.specs.Worth.{whole_number, positive}
+use Rattle.name_table.specs.declared.const_values.constant.Constant.{Constant}
+use Rattle.name_table.specs.declared.const_values.constant.Constant.TheVariants as Constants
+use Rattle.name_table.specs.declared.const_values.kind.ConstKind.{ConstKind}
+use Rattle.name_table.specs.declared.const_values.kind.ConstKind.TheVariants as Kinds
 use Rattle.name_table.specs.Entry.{Entry, worth_in}
 use Rattle.name_table.specs.declared.entry.Meaning.{Meaning}
 use Rattle.scoped_names.specs.Constants.{meant_found, named_worth, of_type, worth_found, worth_in_scope}
@@ -31,9 +31,9 @@ use Rattle.scoped_names.specs.Tests.{constant_test, found_at, found_of, is_of, k
 use Rattle.scoped_names.specs.TypeKinds.{const_type_kind, known, param_type_kind, simple_type_kind, string_kind}
 use Rattle.scoped_names.specs.declared.fault.Flaw.TheVariants.{NoConstant, NoWorth, NotOfType, NotPositive}
 use Rattle.scoped_names.specs.declared.fault.NameFault.TheVariants.{NotAType}
-use Rattle.tree_laws.specs.Shapes.{leaf_shape, optional_shape, name_shape, expr_shape, operands_shape, bound_shape, const_expr_shape}
-use Rattle.tree_laws.specs.TypeShapes.{integer_size_shape, integer_shape, const_type_shape, param_type_shape, simple_type_shape, declarator_shape}
-use Rattle.tree_laws.specs.DefinitionShapes.{const_shape}
+use Rattle.idl_tree.specs.Shapes.{leaf_shape, optional_shape, name_shape, expr_shape, operands_shape, bound_shape, const_expr_shape}
+use Rattle.idl_tree.specs.TypeShapes.{integer_size_shape, integer_shape, const_type_shape, param_type_shape, simple_type_shape, declarator_shape}
+use Rattle.idl_tree.specs.DefinitionShapes.{const_shape}
 use Rattle.shape_laws.proofs.Apart.{apart}
 use Rattle.shape_laws.proofs.Starts.{name_at, expr_at}
 use Rattle.shape_laws.proofs.NameWords.{length_same, leaf_number, sees_same, finds_same}

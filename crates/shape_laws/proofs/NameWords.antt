@@ -15,7 +15,7 @@ use Rattle.idl_tree.specs.Starts.{is_rooted, name_first, name_rest, name_start}
 use Rattle.idl_tree.specs.Yields.{boolean_text, sign_text}
 use Rattle.name_table.specs.Entry.{Entry}
 use Rattle.name_table.specs.Search.{finds, found_by, sees, sees_words, word}
-use Rattle.tree_laws.specs.Shapes.{Shape, Nothing, Kind, leaf_shape, root_shape, optional_shape, list_shape, name_shape, operator_shape}
+use Rattle.idl_tree.specs.Shapes.{Shape, Nothing, Kind, leaf_shape, root_shape, optional_shape, list_shape, name_shape, operator_shape}
 use Rattle.shape_laws.proofs.Apart.{apart}
 use Rattle.shape_laws.proofs.Starts.{leaf_text, name_at}
 

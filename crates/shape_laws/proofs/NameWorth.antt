@@ -13,11 +13,11 @@ use Rattle.idl_tree.specs.declared.names.Path.{Path}
 use Rattle.idl_tree.specs.declared.names.ScopedName.{ScopedName}
 use Rattle.idl_tree.specs.declared.names.ScopedName.TheVariants.{Plain, Scoped}
 use Rattle.idl_tree.specs.declared.expression.Expr.{Expr, Name, Number, Character, Text, Boolean, Parenthesized', Signed', Chain', Row_of-Operand, end_of-Operand, more_of-Operand}
-use Rattle.const_values.specs.Arithmetic.{where_true}
-use Rattle.const_values.specs.Texts.{joined_octets}
-use Rattle.const_values.specs.Worth.{NamesWorth, whole_number, whole_constant, sign_applied, operator_applied, token_worth, literal_worth, is_text, are_texts, text_worth, worth, chain_worth}
-use Rattle.const_values.specs.declared.constant.Constant.TheVariants as Constants
-use Rattle.tree_laws.specs.Shapes.{leaf_shape, token_shape, root_shape, optional_shape, list_shape, listed_shape, path_shape, name_shape, expr_shape, operands_shape}
+use Rattle.name_table.specs.Arithmetic.{where_true}
+use Rattle.name_table.specs.Texts.{joined_octets}
+use Rattle.name_table.specs.Worth.{NamesWorth, whole_number, whole_constant, sign_applied, operator_applied, token_worth, literal_worth, is_text, are_texts, text_worth, worth, chain_worth}
+use Rattle.name_table.specs.declared.const_values.constant.Constant.TheVariants as Constants
+use Rattle.idl_tree.specs.Shapes.{leaf_shape, token_shape, root_shape, optional_shape, list_shape, listed_shape, path_shape, name_shape, expr_shape, operands_shape}
 use Rattle.shape_laws.proofs.Apart.{apart}
 use Rattle.shape_laws.proofs.Starts.{leaf_text}
 use Rattle.shape_laws.proofs.NameWords.{ap₃, flat_same, kind_text, leaf_kind, operator_same, sign_same, boolean_same}

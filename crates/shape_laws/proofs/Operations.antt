@@ -26,9 +26,9 @@ use Rattle.lowered_operations.specs.declared.signature.Role.TheVariants as Roles
 use Rattle.lowered_operations.specs.Oneway.{parts_of, is_in, result_answer, param_answer, raises_answer, answer_of, answer_test, oneway_test}
 use Rattle.lowered_operations.specs.Frames.{carrying, nothing_carried, with_carried, with_param, result_carried, result_name, all_carried}
 use Rattle.lowered_operations.specs.Operations.{Defined, exception_in, with_exception, raised, with_place, with_call, with_operation, operation, with_types, is_set, get_raises, set_raises, with_get, with_access, with_attribute, attribute_identifiers, attribute}
-use Rattle.tree_laws.specs.Shapes.{bool_shape, leaf_shape, optional_shape, list_shape, listed_shape, name_shape, names_shape}
-use Rattle.tree_laws.specs.TypeShapes.{param_type_shape}
-use Rattle.tree_laws.specs.DefinitionShapes.{attributes_shape, attribute_shape, direction_shape, param_shape, operation_shape}
+use Rattle.idl_tree.specs.Shapes.{bool_shape, leaf_shape, optional_shape, list_shape, listed_shape, name_shape, names_shape}
+use Rattle.idl_tree.specs.TypeShapes.{param_type_shape}
+use Rattle.idl_tree.specs.DefinitionShapes.{attributes_shape, attribute_shape, direction_shape, param_shape, operation_shape}
 use Rattle.shape_laws.proofs.Apart.{apart}
 use Rattle.shape_laws.proofs.PartLists.{each_same, parts_of_shape}
 use Rattle.shape_laws.proofs.NameWords.{word_same}

@@ -11,8 +11,8 @@ use Rattle.scoped_names.specs.Reading.{◌>>◌}
 use Rattle.lowered_operations.specs.Operations.{Defined, declared, undefined_yet, with_types}
 use Rattle.lowered_operations.specs.Interfaces.{export, as_reference, offering, with_interface, identifier_of, exports_of, interface_as, interface}
 use Rattle.lowered_operations.specs.Definitions.{definition, definitions_after, defined_by}
-use Rattle.tree_laws.specs.Shapes.{leaf_shape, optional_shape, list_shape}
-use Rattle.tree_laws.specs.DefinitionShapes.{declaration_shape, export_shape, interface_shape, definition_shape, definitions_shape, spec_shape}
+use Rattle.idl_tree.specs.Shapes.{leaf_shape, optional_shape, list_shape}
+use Rattle.idl_tree.specs.DefinitionShapes.{declaration_shape, export_shape, interface_shape, definition_shape, definitions_shape, spec_shape}
 use Rattle.shape_laws.proofs.Apart.{apart}
 use Rattle.shape_laws.proofs.LoweredTypes.{declaration_same}
 use Rattle.shape_laws.proofs.Operations.{operation_same, attribute_same}

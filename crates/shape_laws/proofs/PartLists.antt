@@ -5,7 +5,7 @@ use Rattle.scoped_names.specs.Reading.{◌>>◌}
 use Rattle.lowered_types.specs.declared.fault.BuildFault.{BuildFault}
 use Rattle.lowered_types.specs.Faults.{each}
 use Rattle.lowered_operations.specs.Oneway.{parts_of}
-use Rattle.tree_laws.specs.Shapes.{Shape, optional_shape, list_shape, listed_shape}
+use Rattle.idl_tree.specs.Shapes.{Shape, optional_shape, list_shape, listed_shape}
 
 -- what is said of parts of one shape is the same
 abbrev pub Same : {T S : Type 0} → (T → Shape) → (T → S) → (T → S) → Type 0

@@ -9,7 +9,7 @@ use Rattle.idl_tree.specs.declared.expression.Expr.{Expr, Name, Number, Characte
 use Rattle.idl_tree.specs.Yields.{boolean_text, sign_text}
 use Rattle.idl_tree.specs.Starts.{leaf_at, root_or, name_start, expr_start}
 use Rattle.shape_laws.proofs.Apart.{apart}
-use Rattle.tree_laws.specs.Shapes.{leaf_shape, token_shape, root_shape, optional_shape, name_shape, expr_shape}
+use Rattle.idl_tree.specs.Shapes.{leaf_shape, token_shape, root_shape, optional_shape, name_shape, expr_shape}
 
 abbrev place : ℕ → ℕ → At
 place token line = record { token = token; line = line }

@@ -21,8 +21,8 @@ use Rattle.scoped_names.specs.Reading.{◌>>◌}
 use Rattle.lowered_types.specs.Faults.{at_most, max_bound, max_enumerators, max_size, of_names, or_other}
 use Rattle.lowered_types.specs.Lowered.{Lowered, Numbered, already, added_at, named_type, type_of}
 use Rattle.lowered_types.specs.SimpleTypes.{entry_of, entry_found, type_found, size_of, bound_of, bound_or_none, integer_number, const_type, param_type, simple_type, sizes_read, arrays, declarator_at, array_type, enum_type}
-use Rattle.tree_laws.specs.Shapes.{leaf_shape, optional_shape, list_shape, name_shape, const_expr_shape, bound_shape}
-use Rattle.tree_laws.specs.TypeShapes.{const_type_shape, param_type_shape, simple_type_shape, declarator_shape, enum_shape}
+use Rattle.idl_tree.specs.Shapes.{leaf_shape, optional_shape, list_shape, name_shape, const_expr_shape, bound_shape}
+use Rattle.idl_tree.specs.TypeShapes.{const_type_shape, param_type_shape, simple_type_shape, declarator_shape, enum_shape}
 use Rattle.shape_laws.proofs.Apart.{apart}
 use Rattle.shape_laws.proofs.NameTests.{integer_same, resolved_same, size_same}
 use Rattle.shape_laws.proofs.NameWords.{length_same, map_same, word_same}

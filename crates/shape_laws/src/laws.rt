@@ -5,7 +5,7 @@ ghost use Rattle.idl_tree.specs.declared.definitions.Definition.{Definition};
 ghost use Rattle.lowered_operations.specs.Definitions.{defined_by};
 ghost use Rattle.name_table.specs.Entry.{Entry};
 ghost use Rattle.scoped_names.specs.FileNames.{names_of};
-ghost use Rattle.tree_laws.specs.DefinitionShapes.{spec_shape};
+ghost use Rattle.idl_tree.specs.DefinitionShapes.{spec_shape};
 
 /// The names of a file, and the fault of its names, are those of its shape.
 pub fn names_are_of_the_shape()

@@ -3,3 +3,5 @@ pub mod Objects
 pub mod Counts
 pub mod Sessions
 pub mod Untold
+pub mod Octets
+pub mod Sweeps

@@ -4,7 +4,7 @@ use Rattle.std.specs.List.{IsDistinct}
 use Rattle.std.proofs.lemmas.Option.{slice_get_within}
 use Rattle.type_model.specs.ModelRules.{Parts}
 use Rattle.broker_answers.specs.Objects.{AreServed, Objects}
-use Rattle.attribute_keeper.specs.Keeping.{Keeping}
+use Rattle.broker_answers.specs.Keeping.{Keeping}
 use Rattle.socket_server.specs.Objects.{AreOf}
 
 all_of_one : {X : Type 0} (P : X → Type 0) (x : X) → P x → All P (x ∷ [])

@@ -4,7 +4,7 @@ use Rattle.type_model.specs.ModelRules.{Parts}
 use Rattle.iiop_broker.specs.World.{Broking}
 use Rattle.broker_answers.specs.Servants.{acts}
 use Rattle.iiop_broker.specs.Outcomes.{Ends}
-use Rattle.attribute_keeper.specs.Keeping.{Keeping, says, after}
+use Rattle.broker_answers.specs.Keeping.{Keeping, says, after}
 use Rattle.socket_server.specs.declared.fault.ServeFault.{ServeFault}
 use Rattle.socket_server.specs.declared.fault.ServeFault.TheVariants.{BadObject, NoInterface, Socket, Unwritten, NoMemory}
 use Rattle.socket_server.specs.Objects.{IsBrokerOf}

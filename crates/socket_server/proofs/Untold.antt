@@ -1,8 +1,8 @@
 -- What a read of a socket gave.
 use Rattle.std.proofs.Common.{[], None}
-use Rattle.partings.specs.Parted.{Gave}
-use Rattle.partings.specs.declared.parting.Skip.{Skip}
-use Rattle.partings.specs.declared.parting.Skip.TheVariants.{Octets, NotNow, End, Failed}
+use Rattle.socket_server.specs.Parted.{Gave}
+use Rattle.socket_server.specs.declared.partings.parting.Skip.{Skip}
+use Rattle.socket_server.specs.declared.partings.parting.Skip.TheVariants.{Octets, NotNow, End, Failed}
 
 pub gave_nothing : (skip : Skip) → Gave skip None None
 gave_nothing Octets = ([], tt)

@@ -5,7 +5,7 @@ use Rattle.type_model.specs.ModelRules.{Parts}
 use Rattle.broker_answers.specs.Talk.{world}
 use Rattle.broker_answers.specs.Objects.{Objects, served}
 use Rattle.iiop_broker.specs.World.{Broking, broking}
-use Rattle.attribute_keeper.specs.Keeping.{Keeping, first_keeping}
+use Rattle.broker_answers.specs.Keeping.{Keeping, first_keeping}
 use Rattle.table_commands.specs.References.{IsObject, interface_named}
 use Rattle.socket_server.specs.declared.fault.ServeFault.{ServeFault}
 use Rattle.socket_server.specs.declared.fault.ServeFault.TheVariants.{BadObject, NoInterface, Socket, Unwritten, NoMemory}

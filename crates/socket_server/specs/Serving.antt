@@ -5,7 +5,7 @@ use Rattle.type_model.specs.ModelRules.{Parts}
 use Rattle.broker_answers.specs.Objects.{served}
 use Rattle.broker_answers.specs.Servants.{acts}
 use Rattle.iiop_broker.specs.Outcomes.{Ends}
-use Rattle.attribute_keeper.specs.Keeping.{Keeping, first_keeping, says, after}
+use Rattle.broker_answers.specs.Keeping.{Keeping, first_keeping, says, after}
 use Rattle.socket_server.specs.declared.fault.ServeFault.{ServeFault}
 use Rattle.socket_server.specs.declared.fault.ServeFault.TheVariants.{BadObject, NoInterface, Socket, Unwritten, NoMemory}
 use Rattle.socket_server.specs.Lines.{serving}

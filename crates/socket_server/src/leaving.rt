@@ -1,12 +1,12 @@
 //! Sockets that are let go of.
 
 ghost use Rattle.std.specs.Prelude.{◌≡◌, ◌+◌, ◌<◌, ◌≤◌, length, None};
-ghost use Rattle.partings.specs.Parted.{counted, parted};
+ghost use Rattle.socket_server.specs.Parted.{counted, parted};
 
 use crate::moving::read_now;
 use iiop_broker::Failed;
 use mio::net::TcpStream;
-use partings::{Limits, Parting, Skip, part};
+use crate::partings::{Limits, Parting, Skip, part};
 use std::io::{self, Read};
 use std::net::{OpenStream, Shutdown};
 use std::time::{Clock, Duration, Instant};

@@ -14,6 +14,7 @@ mod misses;
 mod moving;
 mod object;
 mod options;
+pub mod partings;
 mod polled_loopback;
 mod polled_stream;
 mod serving;

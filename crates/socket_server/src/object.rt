@@ -5,7 +5,7 @@ ghost use Rattle.broker_answers.specs.Objects.{objects_of};
 ghost use Rattle.socket_server.specs.Objects.{AreOf, IsBrokerOf, IsObjectFault, IsObjectOf};
 
 use crate::fault::ServeFault;
-use attribute_keeper::Keeper;
+use broker_answers::attribute_keeper::Keeper;
 use giop::Giop;
 use iiop_broker::Broker;
 use position_checker::Accepted;

@@ -12,7 +12,7 @@ use event_loop::{End, Listener, PolledListener};
 use iiop_broker::Failed;
 use mio::net::{TcpListener, TcpStream};
 use mio::{Events, Interest, Poll, Token};
-use partings::Partings;
+use crate::partings::Partings;
 use std::alloc::{AllocError, Global};
 use std::io::ErrorKind;
 use std::net::{Ipv4Addr, Net, SocketAddr};

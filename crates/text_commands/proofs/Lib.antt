@@ -1,1 +1,4 @@
 pub mod Facts
+pub mod CallTextsFacts
+pub mod Ids
+pub mod Exceptions

@@ -2,3 +2,5 @@
 pub mod Lines
 pub mod Refusal
 pub mod inner
+pub mod Bodies
+pub mod Outcomes

@@ -1,2 +1,3 @@
 -- What the crate's own code and proofs name, and no public contract does.
 pub mod Tapes
+pub mod Ids

@@ -2,6 +2,7 @@
 //! of a value that octets encode, by the types of a table; and what these texts look like.
 #![tactic(auto)]
 
+pub mod call_texts;
 mod marshal;
 mod outline;
 mod refusal;

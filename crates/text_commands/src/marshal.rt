@@ -15,7 +15,7 @@ ghost use Rattle.table_commands.specs.declared.values.Way.TheVariants.{Encode, D
 
 use crate::refusal::TextRefusal;
 use idl_value::Value;
-use part_names::PartNames;
+use type_model::part_names::PartNames;
 use position_checker::Accepted;
 use std::alloc::{AllocError, Global};
 use table_commands::{Refusal, ValueRequest, Way, octets_line, octets_of};

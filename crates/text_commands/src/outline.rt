@@ -1,6 +1,6 @@
 //! What the text of a value of each type looks like.
 
-use part_names::{NodeNames, PartNames};
+use type_model::part_names::{NodeNames, PartNames};
 use position_checker::Accepted;
 use std::alloc::{AllocError, Global};
 use std::fmt;

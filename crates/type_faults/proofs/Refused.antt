@@ -8,7 +8,7 @@ use Rattle.idl_tree.specs.DefinitionYields.{definitions_spelled}
 use Rattle.idl_tree.specs.Pieces.{Spell}
 use Rattle.name_table.specs.Entry.{Entry}
 use Rattle.scoped_names.specs.FileNames.{AreNames, FileNames, names_of}
-use Rattle.tree_laws.specs.DefinitionShapes.{spec_shape}
+use Rattle.idl_tree.specs.DefinitionShapes.{spec_shape}
 use Rattle.lowered_types.specs.declared.fault.BuildFault.{BuildFault}
 use Rattle.lowered_operations.specs.Definitions.{defined_by}
 use Rattle.type_faults.specs.AllFaults.{AreRefused, HasFault, IsRefused, numbers_of}

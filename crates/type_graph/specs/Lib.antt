@@ -12,3 +12,4 @@ pub mod Leaves
 pub mod Zero
 pub mod Heights
 pub mod inner
+pub mod BasicNodes

@@ -1,6 +1,7 @@
 //! The graph of types of an IDL specification, and what their values are in CDR.
 #![tactic(auto)]
 
+pub mod basic_types;
 mod cycles;
 pub mod fault;
 pub mod graph;

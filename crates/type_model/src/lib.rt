@@ -2,8 +2,10 @@
 //! exceptions.
 #![tactic(auto)]
 
+pub mod called_operations;
 mod model;
 mod names;
+pub mod part_names;
 mod signatures;
 
 pub use model::Model;

@@ -4,7 +4,7 @@ use Rattle.std.specs.Prelude.{◌↔◌, Ok, nat_lt, if◌then◌else◌}
 use Rattle.std.proofs.lemmas.Bool.{ltb-true}
 use Rattle.hex.specs.Hex.{decode_of}
 use Rattle.json.specs.Token.{Token, string, begin_object, end_object, begin_array, end_array}
-use Rattle.part_names.specs.Names.{names_at, AreApart}
+use Rattle.type_model.specs.PartNamesNames.{names_at, AreApart}
 use Rattle.type_graph.specs.declared.node.Node.{Node}
 use Rattle.type_graph.specs.declared.node.Node.TheVariants.{Octet, Char, Text, Seq, Array, Struct, Union, Frame}
 use Rattle.type_graph.specs.Value.{Tree, Number, Bytes, Items, Choice, Trees, NoTree, AndTree, count, node_at, arm_of, IsNumber, IsNumeric, IsCount, Fits, FitAll}
@@ -14,7 +14,7 @@ use Rattle.value_text.specs.Pieces.{characters, octet_of, octets_of, joined, pai
 use Rattle.value_text.specs.Says.{SaysNumber, SaysTogether, IsList, Says, SayAll}
 use Rattle.value_text.specs.inner.Reading.{Next, IsString, Reads, ReadsAs, ReadsItems, ReadsElements, ReadsParts, ReadsList, ReadsCopies, ReadsMembers, ReadsStructure, ReadsObject}
 use Rattle.value_text.specs.inner.Refusing.{IsLow, IsNamed, AreOctets, AreSound, ReadsNone}
-use Rattle.reference_values.specs.Stringified.{Stringifies, FitsObject}
+use Rattle.value_text.specs.Stringified.{Stringifies, FitsObject}
 use Rattle.value_text.specs.Texts.{refers}
 use Rattle.value_text.proofs.References.{fits_object}
 use Rattle.value_text.proofs.PrintedTexts.{fit_count}

@@ -12,3 +12,11 @@ pub mod Refusals
 pub mod KindRefusals
 pub mod ObjectRefusals
 pub mod Named
+pub mod Passed
+pub mod Strings
+pub mod Numbers
+pub mod Said
+pub mod Parts
+pub mod Alike
+pub mod Encoded
+pub mod Spelled

@@ -11,7 +11,7 @@ use Rattle.std.proofs.lemmas.Option.{same_Some}
 use Rattle.std.proofs.lemmas.Slice.Eq.{bytes_eq-Decides}
 use Rattle.json.specs.Token.{Token, key, end_object}
 use Rattle.idl_lexer.specs.Words.{same_but_for_case}
-use Rattle.part_names.specs.Names.{names_at, AreApart}
+use Rattle.type_model.specs.PartNamesNames.{names_at, AreApart}
 use Rattle.type_graph.specs.declared.node.Node.{Node}
 use Rattle.type_graph.specs.Value.{Tree, Trees, NoTree, AndTree, node_at, Fits, FitAll}
 use Rattle.type_graph.proofs.WordLaws.{all_weaken}

@@ -15,7 +15,7 @@ use Rattle.std.specs.Str.Parse.{digits_value}
 use lib.Signed.{mag}
 use Rattle.json.specs.Token.{Token, string, number, boolean, key}
 use Rattle.idl_lexer.specs.Words.{same_but_for_case}
-use Rattle.part_names.specs.Names.{AreApart}
+use Rattle.type_model.specs.PartNamesNames.{AreApart}
 use Rattle.type_graph.specs.declared.width.Width.TheVariants.{One, Two, Four, Eight}
 use Rattle.type_graph.specs.declared.node.Node.{Node}
 use Rattle.type_graph.specs.declared.node.Node.TheVariants.{Integer, Octet, Char, Boolean, Enum}

@@ -8,7 +8,7 @@ use Rattle.std.proofs.lemmas.Map.Keys.{IsDistinct-head, IsDistinct-tail}
 use Rattle.std.proofs.lemmas.List.Elements.{All-from_recursion, recursion_from_All}
 use Rattle.json.specs.Token.{Token, key, end_object, bad}
 use Rattle.idl_lexer.specs.Words.{same_but_for_case}
-use Rattle.part_names.specs.Names.{AreApart}
+use Rattle.type_model.specs.PartNamesNames.{AreApart}
 use Rattle.type_graph.specs.Value.{Tree}
 use Rattle.value_text.specs.Pieces.{paired}
 use Rattle.value_text.proofs.OneNumber.{text_in, same_itself}

@@ -7,7 +7,7 @@ use Rattle.std.proofs.lemmas.List.{get_or_past}
 use Rattle.std.proofs.lemmas.Option.{slice_get_cases}
 use Rattle.json.specs.Token.{Token, string, begin_array, end_object, end_array}
 use Rattle.hex.specs.Hex.{decode_of}
-use Rattle.part_names.specs.Names.{names_at, AreApart}
+use Rattle.type_model.specs.PartNamesNames.{names_at, AreApart}
 use Rattle.type_graph.specs.declared.node.Node.{Node}
 use Rattle.type_graph.specs.declared.node.Node.TheVariants.{Octet, Char, Enum, Text, Seq, Array, Struct, Union, Frame}
 use Rattle.type_graph.specs.Value.{Tree, Number, Bytes, Items, Choice, Trees, NoTree, AndTree, count, node_at, arm_of, IsNumber, Fits, FitAll}
@@ -15,8 +15,8 @@ use Rattle.type_graph.specs.GraphRules.{IsNode, IsGraph}
 use Rattle.value_text.specs.Pieces.{octets_of, joined, paired}
 use Rattle.value_text.specs.Says.{SaysNumber, SaysTogether, SaysReference, IsObject, IsList, Says, SayAll, StandsFor}
 use Rattle.value_text.specs.inner.Refusing.{IsLow, IsNamed}
-use Rattle.reference_values.specs.Stringified.{Stringifies}
-use Rattle.reference_values.proofs.Spelled.{one_value as one_reference}
+use Rattle.value_text.specs.Stringified.{Stringifies}
+use Rattle.value_text.proofs.Spelled.{one_value as one_reference}
 use Rattle.value_text.proofs.PrintedTexts.{fit_count}
 use Rattle.value_text.proofs.Firsts.{IsFirst, says_begun}
 use Rattle.value_text.proofs.ReadLaws.{IsByte, together_byte}

@@ -6,12 +6,12 @@ use Rattle.json.specs.Token.{Token}
 use Rattle.hex.specs.Hex.{encode_lower, IsBytes}
 use Rattle.std.proofs.lemmas.List.Sorted.{IsPermutation-refl}
 use Rattle.hex.proofs.HexLemmas.{decode_of-encode_lower}
-use Rattle.part_names.specs.Names.{names_at}
+use Rattle.type_model.specs.PartNamesNames.{names_at}
 use Rattle.type_graph.specs.declared.node.Node.{Node}
 use Rattle.type_graph.specs.declared.node.Node.TheVariants.{Octet, Char, Boolean, Enum, Text, Seq, Array, Struct, Union, Frame}
 use Rattle.type_graph.specs.Value.{Tree, Number, Bytes, Items, Choice, Trees, NoTree, AndTree, count, node_at, arm_of, Fits, FitAll}
 use Rattle.value_text.specs.Pieces.{octet_of, octet_of_tree, octets_of, listed, object_of, are_named}
-use Rattle.reference_values.specs.Printed.{reference_text}
+use Rattle.value_text.specs.Printed.{reference_text}
 use Rattle.value_text.specs.Texts.{label_of, enumerator_of, number_text, elements_text, members_text, refers, structure_text, text_of, texts_of}
 use Rattle.value_text.specs.Says.{SaysNumber, SaysTogether, IsObject, IsList, Says, SayAll}
 use Rattle.value_text.proofs.References.{printed_one}

@@ -8,7 +8,7 @@ use Rattle.std.proofs.lemmas.Option.{same_Some}
 use Rattle.std.proofs.lemmas.List.Sorted.{IsPermutation-refl, IsPermutation-trans, IsPermutation-sym, IsPermutation-cons, IsPermutation-to_front}
 use Rattle.std.proofs.Math.Seq.{take-suc}
 use Rattle.json.specs.Token.{Token, key, string, begin_object, begin_array, end_object, end_array, bad}
-use Rattle.part_names.specs.Names.{names_at}
+use Rattle.type_model.specs.PartNamesNames.{names_at}
 use Rattle.type_graph.specs.declared.node.Node.{Node}
 use Rattle.type_graph.specs.declared.node.Node.TheVariants.{Octet, Char, Text, Array, Struct, Union}
 use Rattle.type_graph.specs.Value.{Tree, Number, Items, Choice, Trees, NoTree, AndTree, count, node_at, arm_of, IsNumber, Fits, FitAll}
@@ -21,8 +21,8 @@ use Rattle.value_text.specs.Pieces.{octets_of, joined, paired}
 use Rattle.value_text.specs.Says.{SaysNumber, SaysTogether, IsList, Says, SayAll}
 use Rattle.value_text.specs.inner.Slots.{AreParts, given}
 use Rattle.value_text.specs.inner.Reading.{Next, IsOctet, IsOctets, IsString, Reads, ReadsAs, ReadsItems, ReadsParts, ReadsList, ReadsMembers, ReadsStructure, ReadsSlots, ReadsObject, SaysMember}
-use Rattle.reference_values.proofs.Parts.{octets_of-trees}
-use Rattle.reference_values.specs.Stringified.{Stringifies, FitsObject}
+use Rattle.value_text.proofs.Parts.{octets_of-trees}
+use Rattle.value_text.specs.Stringified.{Stringifies, FitsObject}
 use Rattle.value_text.specs.Texts.{refers}
 use Rattle.value_text.proofs.References.{object_members, object_fits}
 use Rattle.value_text.proofs.Firsts.{IsFirst, number_first}

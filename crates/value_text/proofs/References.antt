@@ -3,11 +3,11 @@ use Rattle.std.proofs.Common.{◌≡◌, ℕ, List, [], ◌∷◌, true, refl}
 use Rattle.std.proofs.lemmas.Bool.{false≢true}
 use Rattle.type_graph.specs.declared.node.Node.{Node}
 use Rattle.type_graph.specs.Value.{Tree, Number, Bytes, Items, Choice, Trees, FitAll}
-use Rattle.reference_values.specs.Shape.{is_reference}
-use Rattle.reference_values.specs.Printed.{reference_text}
-use Rattle.reference_values.specs.Stringified.{Stringifies, FitsObject}
-use Rattle.reference_values.proofs.Alike.{to_object, from_object}
-use Rattle.reference_values.proofs.Spelled.{printed_spelled}
+use Rattle.value_text.specs.Shape.{is_reference}
+use Rattle.value_text.specs.Printed.{reference_text}
+use Rattle.value_text.specs.Stringified.{Stringifies, FitsObject}
+use Rattle.value_text.proofs.Alike.{to_object, from_object}
+use Rattle.value_text.proofs.Spelled.{printed_spelled}
 use Rattle.value_text.specs.Texts.{refers}
 
 -- they have the shape

@@ -2,7 +2,7 @@
 use Rattle.std.proofs.Common.{◌≡◌, ◌≢◌, inl, inr, ℕ, zero, suc, ◌+◌, ◌<◌, ◌≤◌, List, [], ◌∷◌, ◌++◌, length, drop, take, get_or, replicate, refl, sym, ap, ◌∙◌, subst, append_assoc, arith}
 use Rattle.std.proofs.lemmas.List.{append-nil}
 use Rattle.json.specs.Token.{Token, end_array}
-use Rattle.part_names.specs.Names.{names_at}
+use Rattle.type_model.specs.PartNamesNames.{names_at}
 use Rattle.type_graph.specs.declared.node.Node.{Node}
 use Rattle.type_graph.specs.Value.{Tree, Trees, NoTree, AndTree, count, node_at, Fits, FitAll}
 use Rattle.idl_value.specs.declared.value.Value.{Value}

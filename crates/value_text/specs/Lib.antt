@@ -4,3 +4,8 @@ pub mod Tapes
 pub mod Says
 pub mod Refusal
 pub mod inner
+pub mod Escaped
+pub mod Octets
+pub mod Shape
+pub mod Printed
+pub mod Stringified

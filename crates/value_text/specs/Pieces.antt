@@ -3,7 +3,7 @@ use Rattle.std.specs.Prelude.{ℕ, suc, ℤ, Bool, false, ◌==◌}
 use Rattle.std.specs.Prelude.{List, [], ◌∷◌, ◌++◌, length, encode_utf8_all}
 use Rattle.std.specs.Fmt.{signed_decimal}
 use Rattle.json.specs.Token.{Token, begin_object, end_object, begin_array, end_array, key, number}
-pub use Rattle.reference_values.specs.Octets.{octet_of, octet_of_tree, octets_of}
+pub use Rattle.value_text.specs.Octets.{octet_of, octet_of_tree, octets_of}
 
 -- octet n as the character U+00nn: every octet has one, and no two have the same
 abbrev pub characters : List ℕ → List ℕ

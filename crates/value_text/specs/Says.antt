@@ -4,12 +4,12 @@ use Rattle.std.specs.Prelude.{◌≡◌, ◌⊎◌, ℕ, ℤ, List, [], ◌∷�
 use Rattle.std.specs.Prelude.{Ok, true}
 use Rattle.json.specs.Token.{Token, string, boolean}
 use Rattle.hex.specs.Hex.{decode_of}
-use Rattle.part_names.specs.Names.{names_at}
+use Rattle.type_model.specs.PartNamesNames.{names_at}
 use Rattle.type_graph.specs.declared.node.Node.{Node}
 use Rattle.type_graph.specs.declared.node.Node.TheVariants.{Octet, Char, Boolean, Enum, Text, Seq, Array, Struct, Union, Frame}
 use Rattle.type_graph.specs.Value.{Tree, Number, Bytes, Items, Choice, Trees, NoTree, AndTree, count, node_at, arm_of, Fits}
 use Rattle.value_text.specs.Pieces.{characters, digits, octet_of, octets_of, listed, object_of}
-use Rattle.reference_values.specs.Stringified.{Stringifies}
+use Rattle.value_text.specs.Stringified.{Stringifies}
 use Rattle.value_text.specs.Texts.{truth_of, label_of, refers}
 
 -- An integer and an octet by its digits (not `-0`, `1.0`, `1e3` or "1"), a boolean by its word (not 0), a character

@@ -1,7 +1,7 @@
 -- Tapes of values, and their texts.
 use Rattle.std.specs.Prelude.{◌≡◌, ℕ, List}
 use Rattle.json.specs.Print.{print}
-use Rattle.escaped_json.specs.Escaped.{escaped}
+use Rattle.value_text.specs.Escaped.{escaped}
 use Rattle.type_graph.specs.declared.node.Node.{Node}
 use Rattle.type_graph.specs.Value.{Tree, Fits, node_at, tape_of}
 use Rattle.value_text.specs.Texts.{text_at}

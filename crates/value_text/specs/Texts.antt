@@ -4,12 +4,12 @@ use Rattle.std.specs.Prelude.{ℕ, zero, ℤ, pos, negsuc, Bool, true, false, if
 use Rattle.std.specs.Prelude.{List, [], ◌∷◌, replicate, zip, length, Option, Some, None, slice_get}
 use Rattle.json.specs.Token.{Token, string, boolean}
 use Rattle.hex.specs.Hex.{encode_lower}
-use Rattle.part_names.specs.Names.{names_at}
+use Rattle.type_model.specs.PartNamesNames.{names_at}
 use Rattle.type_graph.specs.declared.node.Node.{Node}
 use Rattle.type_graph.specs.declared.node.Node.TheVariants.{Octet, Char, Boolean, Enum, Seq, Array, Struct, Union, Frame}
 use Rattle.type_graph.specs.Value.{Tree, Number, Bytes, Items, Choice, Trees, AndTree, count, node_at, arm_of}
-use Rattle.reference_values.specs.Shape.{is_reference}
-use Rattle.reference_values.specs.Printed.{reference_text}
+use Rattle.value_text.specs.Shape.{is_reference}
+use Rattle.value_text.specs.Printed.{reference_text}
 use Rattle.value_text.specs.Pieces.{characters, digits, octet_of, octets_of, listed, object_of, are_named}
 
 -- every number but 0 is true

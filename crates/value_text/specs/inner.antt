@@ -3,3 +3,4 @@ pub mod Writing
 pub mod Slots
 pub mod Reading
 pub mod Refusing
+pub mod Room

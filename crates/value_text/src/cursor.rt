@@ -5,14 +5,14 @@ ghost use Rattle.json.specs.Token.{Token as SpecToken, end_array, end_object, ke
 ghost use Rattle.json.specs.Reads.{token_of};
 ghost use Rattle.type_graph.specs.Value.{Tree};
 ghost use Rattle.idl_value.specs.View.{tree_of};
-ghost use Rattle.reference_values.specs.Stringified.{Stringifies, FitsObject};
+ghost use Rattle.value_text.specs.Stringified.{Stringifies, FitsObject};
 ghost use Rattle.value_text.specs.inner.Reading.{Next};
 
 use crate::fault::Wanted;
 use giop_types::GiopTypes;
 use idl_value::Value;
 use json::{Reader, Token};
-use reference_values::reference_value;
+use crate::reference_values::reference_value;
 use std::alloc::{AllocError, AllocFailed, Global};
 use std::marker::Model;
 

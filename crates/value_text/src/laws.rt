@@ -2,7 +2,7 @@
 
 ghost use Rattle.std.specs.Prelude.{◌≡◌, ◌<◌, ℕ, List, length};
 ghost use Rattle.json.specs.Token.{Token};
-ghost use Rattle.part_names.specs.Names.{AreApart, names_at};
+ghost use Rattle.type_model.specs.PartNamesNames.{AreApart, names_at};
 ghost use Rattle.type_graph.specs.declared.node.Node.{Node};
 ghost use Rattle.type_graph.specs.GraphRules.{IsGraph};
 ghost use Rattle.type_graph.specs.Value.{Tree, node_at, Fits};

@@ -2,9 +2,9 @@
 //! choice of names makes that slow.
 
 ghost use Rattle.std.specs.Prelude.{◌≡◌, ◌<◌, ℕ, Some, IfSome, IfNone, OnOk, slice_get};
-ghost use Rattle.part_names.specs.Names.{AreApart, names_at};
+ghost use Rattle.type_model.specs.PartNamesNames.{AreApart, names_at};
 
-use part_names::{NodeNames, PartNames};
+use type_model::part_names::{NodeNames, PartNames};
 use std::alloc::{AllocError, Global};
 use type_graph::Items;
 use type_model::{Name, NameTable};

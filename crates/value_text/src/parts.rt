@@ -9,7 +9,7 @@ ghost use Rattle.value_text.specs.Tapes.{IsTape, IsTextOfTape};
 use crate::fault::PrintFault;
 use crate::print;
 use idl_value::{Value, ValueFault, pack, unpack};
-use part_names::PartNames;
+use type_model::part_names::PartNames;
 use std::alloc::{AllocError, Global};
 use type_graph::Graph;
 

@@ -5,14 +5,14 @@ ghost use Rattle.type_graph.specs.Value.{node_at, count, Items, Choice};
 ghost use Rattle.idl_value.specs.View.{tree_of, trees_of, member_of};
 ghost use Rattle.value_text.specs.Pieces.{listed, octets_of, object_of, paired, joined};
 ghost use Rattle.value_text.specs.Texts.{text_at, text_of, texts_of, refers as node_refers, structure_text, members_text, elements_text, number_text};
-ghost use Rattle.part_names.specs.Names.{names_at};
+ghost use Rattle.type_model.specs.PartNamesNames.{names_at};
 ghost use Rattle.value_text.specs.inner.Writing.{Adds, member_at, part_at};
 
 use crate::scalars::{write_chars, write_number, write_octets, write_reference, write_text};
 use crate::shape::refers;
 use idl_value::Value;
 use json::Writer;
-use part_names::{NodeNames, PartNames};
+use type_model::part_names::{NodeNames, PartNames};
 use std::alloc::{AllocError, Global};
 use type_graph::{Graph, Node};
 

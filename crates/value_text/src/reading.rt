@@ -6,8 +6,8 @@ ghost use Rattle.type_graph.specs.Value.{Tree, Trees, Number, Items, node_at, Is
 ghost use Rattle.idl_value.specs.View.{tree_of, trees_of, member_of};
 ghost use Rattle.json.specs.Token.{Token as SpecToken, string};
 ghost use Rattle.json.specs.Reads.{token_of};
-ghost use Rattle.part_names.specs.Names.{AreApart, names_at};
-ghost use Rattle.reference_values.specs.Stringified.{Stringifies, FitsObject};
+ghost use Rattle.type_model.specs.PartNamesNames.{AreApart, names_at};
+ghost use Rattle.value_text.specs.Stringified.{Stringifies, FitsObject};
 ghost use Rattle.value_text.specs.Texts.{refers as node_refers};
 ghost use Rattle.value_text.specs.Says.{SaysNumber, SaysTogether};
 ghost use Rattle.value_text.specs.inner.Reading.{IsOctets, Reads, ReadsAs, ReadsItems, ReadsElements, ReadsParts, ReadsList, ReadsCopies, ReadsMembers, ReadsStructure, ReadsObject};
@@ -21,7 +21,7 @@ use crate::shape::refers;
 use crate::words::{read_chars, read_number, read_octets, read_text};
 use idl_value::Value;
 use json::Token;
-use part_names::{NodeNames, PartNames};
+use type_model::part_names::{NodeNames, PartNames};
 use std::alloc::{AllocError, Global};
 use type_graph::{Arms, Graph, Node};
 

@@ -5,16 +5,16 @@ ghost use Rattle.std.specs.String.{string_bytes};
 ghost use Rattle.hex.specs.Hex.{encode_lower};
 ghost use Rattle.json.specs.Token.{string};
 ghost use Rattle.idl_value.specs.View.{trees_of};
-ghost use Rattle.reference_values.specs.Octets.{octets_of as the_octets_of};
-ghost use Rattle.reference_values.specs.Printed.{reference_text as text_of_reference};
+ghost use Rattle.value_text.specs.Octets.{octets_of as the_octets_of};
+ghost use Rattle.value_text.specs.Printed.{reference_text as text_of_reference};
 ghost use Rattle.value_text.specs.Pieces.{characters, digits};
 ghost use Rattle.value_text.specs.Texts.{label_of, enumerator_of, number_text};
 ghost use Rattle.value_text.specs.inner.Writing.{Adds};
 
 use idl_value::Value;
 use json::Writer;
-use part_names::NodeNames;
-use reference_values::{octet_of, octets_of, reference_text};
+use type_model::part_names::NodeNames;
+use crate::reference_values::{octet_of, octets_of, reference_text};
 use std::alloc::{AllocError, Global};
 use type_graph::Node;
 

@@ -3,8 +3,8 @@
 ghost use Rattle.std.specs.Prelude.{◌≡◌};
 ghost use Rattle.value_text.specs.Texts.{refers as node_refers};
 
-use part_names::NodeNames;
-use reference_values::is_reference;
+use type_model::part_names::NodeNames;
+use crate::reference_values::is_reference;
 use type_graph::Graph;
 
 /// Whether members of these names, if any, are those of an object reference.

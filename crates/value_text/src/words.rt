@@ -3,7 +3,7 @@
 ghost use Rattle.std.specs.Prelude.{◌≡◌, ◌↔◌, ◌<◌, ◌^◌, ℕ, ℤ, pos, List, [], ◌∷◌, Some, Ok, IfSome, IfNone, IfOk, IfErr, IsTrue, decimal};
 ghost use Rattle.std.specs.Fmt.{signed_decimal};
 ghost use lib.Signed.{mag};
-ghost use Rattle.part_names.specs.Names.{AreApart};
+ghost use Rattle.type_model.specs.PartNamesNames.{AreApart};
 ghost use Rattle.hex.specs.Hex.{decode_of};
 ghost use Rattle.json.specs.Token.{string};
 ghost use Rattle.json.specs.Reads.{token_of};
@@ -21,7 +21,7 @@ use crate::fault::Wanted;
 use crate::lookup::Lookup;
 use idl_value::Value;
 use json::Token;
-use part_names::NodeNames;
+use type_model::part_names::NodeNames;
 use std::alloc::{AllocError, Global};
 use type_graph::Node;
 

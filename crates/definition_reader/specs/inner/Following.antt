@@ -1,8 +1,8 @@
 -- That a reader goes where the way over tokens goes.
 use Rattle.std.specs.Prelude.{◌≡◌, ◌≤◌, ◌⊎◌, ℕ, Bool, true, false, List, [], Option, Some, None, codes, length}
 use Rattle.idl_tree.specs.Pieces.{Seen}
-use Rattle.tree_laws.specs.Descent.{Way, repeated, opened, and_then, mark_taken, named_way, braced_way, no_brace, case_way, type_way, open_sequence_way, simple_type_way, end_sequence_way}
-use Rattle.tree_laws.specs.DefinitionDescent.{raises_way, definitions_way}
+use Rattle.idl_tree.specs.Descent.{Way, repeated, opened, and_then, mark_taken, named_way, braced_way, no_brace, case_way, type_way, open_sequence_way, simple_type_way, end_sequence_way}
+use Rattle.idl_tree.specs.DefinitionDescent.{raises_way, definitions_way}
 use Rattle.definition_reader.specs.declared.stop.Stop.{Stop}
 use Rattle.definition_reader.specs.declared.stop.Stop.TheVariants.{NoMemory}
 

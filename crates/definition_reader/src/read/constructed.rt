@@ -3,7 +3,7 @@
 
 ghost use Rattle.std.specs.Prelude.{◌≡◌, ◌++◌, ◌∷◌, [], ◌≤◌, ◌<◌, max, suc, length, IfErr, IfOk, List, codes, Some};
 ghost use Rattle.std.specs.List.{flat_map};
-ghost use Rattle.tree_laws.specs.Descent.{braced_way, case_way, label_way, labels_way, member_way, opened, repeated, sees_label, struct_way, type_way, union_name_way, union_way};
+ghost use Rattle.idl_tree.specs.Descent.{braced_way, case_way, label_way, labels_way, member_way, opened, repeated, sees_label, struct_way, type_way, union_name_way, union_way};
 ghost use Rattle.definition_reader.specs.inner.Following.{Ends, union_body_way};
 ghost use Rattle.definition_reader.specs.declared.stop.Stop.TheVariants.{NoMemory};
 ghost use Rattle.definition_reader.specs.inner.Reading.{Parsed, Continued, Added};

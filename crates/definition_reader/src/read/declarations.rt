@@ -2,7 +2,7 @@
 #![tactic(auto, using(crate::proofs::Reading::past_append, crate::proofs::Reading::past_none))]
 
 ghost use Rattle.std.specs.Prelude.{◌≡◌, ◌++◌, ◌≤◌, max, IfErr, IfOk, List, codes, Some};
-ghost use Rattle.tree_laws.specs.DefinitionDescent.{const_way, declaration_way, except_members_way, except_way, sees_declaration, struct_dcl_way, type_dcl_way, typedef_way, union_dcl_way};
+ghost use Rattle.idl_tree.specs.DefinitionDescent.{const_way, declaration_way, except_members_way, except_way, sees_declaration, struct_dcl_way, type_dcl_way, typedef_way, union_dcl_way};
 ghost use Rattle.definition_reader.specs.inner.Following.{Ends, except_name_way};
 ghost use Rattle.definition_reader.specs.inner.Reading.{Parsed};
 ghost use Rattle.idl_tree.specs.Pieces.{keyword, mark};

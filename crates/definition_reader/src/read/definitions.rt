@@ -3,8 +3,8 @@
 
 ghost use Rattle.std.specs.Prelude.{◌≡◌, ◌++◌, ◌≤◌, ◌∷◌, [], suc, max, Ok, IfErr, IfOk, List, codes, Some};
 ghost use Rattle.std.specs.List.{flat_map};
-ghost use Rattle.tree_laws.specs.Descent.{taken_kind};
-ghost use Rattle.tree_laws.specs.DefinitionDescent.{declaration_way, definition_way, definitions_way, ended_way, goes_on, interface_way, single_way};
+ghost use Rattle.idl_tree.specs.Descent.{taken_kind};
+ghost use Rattle.idl_tree.specs.DefinitionDescent.{declaration_way, definition_way, definitions_way, ended_way, goes_on, interface_way, single_way};
 ghost use Rattle.definition_reader.specs.inner.Following.{Ends};
 ghost use Rattle.definition_reader.specs.declared.stop.Stop.TheVariants.{NoMemory};
 ghost use Rattle.idl_lexer.specs.declared.token.Kind.TheVariants.{Pragma};

@@ -7,7 +7,7 @@ ghost use Rattle.std.specs.List.{AllByRecursion, flat_map};
 ghost use Rattle.definition_reader.specs.inner.Reading.{Parsed, Continued};
 ghost use Rattle.idl_tree.specs.Pieces.{kept_mark};
 ghost use Rattle.idl_tree.specs.Grouping.{IsOfLevel, IsOperandOf};
-ghost use Rattle.tree_laws.specs.Descent.{atom_way, behind_next, boolean_way, expr_way, if_seen, inside_way, level_way, operands_way, operator_at, operator_seen, operator_way, primary_way, sees_sign, text_way, texts_way, unary_way};
+ghost use Rattle.idl_tree.specs.Descent.{atom_way, behind_next, boolean_way, expr_way, if_seen, inside_way, level_way, operands_way, operator_at, operator_seen, operator_way, primary_way, sees_sign, text_way, texts_way, unary_way};
 ghost use Rattle.definition_reader.specs.inner.Following.{Ends};
 ghost use Rattle.idl_tree.specs.Levels.{highest, expr_levels, operand_levels, const_expr_levels, bound_levels};
 ghost use Rattle.idl_tree.specs.Yields.{operator_yield, sign_text, expr_yield, const_expr_yield, bound_yield, operand_yield, text_yield, in_order};

@@ -3,8 +3,8 @@
 
 ghost use Rattle.std.specs.Prelude.{◌≡◌, ◌++◌, ◌||◌, ◌≤◌, ◌∷◌, [], ℕ, Bool, true, false, max, IfErr, IfOk, List, codes, Some};
 ghost use Rattle.std.specs.List.{flat_map};
-ghost use Rattle.tree_laws.specs.Descent.{sees_word};
-ghost use Rattle.tree_laws.specs.DefinitionDescent.{attribute_way, attributes_way, bases_way, declaration_way, direction_way, ended_way, export_way, exports_way, oneway_way, operation_way, params_way, raises_way, readonly_way, result_way};
+ghost use Rattle.idl_tree.specs.Descent.{sees_word};
+ghost use Rattle.idl_tree.specs.DefinitionDescent.{attribute_way, attributes_way, bases_way, declaration_way, direction_way, ended_way, export_way, exports_way, oneway_way, operation_way, params_way, raises_way, readonly_way, result_way};
 ghost use Rattle.definition_reader.specs.inner.Following.{Ends, settable_way};
 ghost use Rattle.definition_reader.specs.declared.stop.Stop.TheVariants.{NoMemory};
 ghost use Rattle.definition_reader.specs.inner.Reading.{Parsed, Continued, Added};
@@ -157,7 +157,7 @@ fn read_direction(cursor: &mut Cursor<'_, '_>) -> Result<Direction, Stop>
 impl<'a> Part<'a> for Param<'a> {
     ghost use Rattle.idl_tree.specs.DefinitionYields.{param_yield};
     ghost use Rattle.idl_tree.specs.DefinitionLevels.{param_levels};
-    ghost use Rattle.tree_laws.specs.DefinitionDescent.{param_way};
+    ghost use Rattle.idl_tree.specs.DefinitionDescent.{param_way};
 
     ghost yield_of = { param_yield };
 

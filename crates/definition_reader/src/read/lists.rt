@@ -3,7 +3,7 @@
 
 ghost use Rattle.std.specs.Prelude.{◌≡◌, ◌++◌, ◌≤◌, ◌<◌, ◌∷◌, [], ℕ, suc, length, List, Ok, IfErr, IfOk, IsOkAnd, codes, Some};
 ghost use Rattle.std.specs.List.{flat_map};
-ghost use Rattle.tree_laws.specs.Descent.{Way, and_then, listed_way, mark_taken, named_way, opened_way, rest_way};
+ghost use Rattle.idl_tree.specs.Descent.{Way, and_then, listed_way, mark_taken, named_way, opened_way, rest_way};
 ghost use Rattle.definition_reader.specs.inner.Following.{Ends};
 ghost use Rattle.definition_reader.specs.declared.stop.Stop.TheVariants.{NoMemory};
 ghost use Rattle.definition_reader.specs.inner.Reading.{Parsed, Continued};
@@ -141,7 +141,7 @@ pub(crate) fn read_listed<'a, T: Part<'a>>(
 impl<'a, T: Part<'a>> Part<'a> for Listed<T> {
     ghost use Rattle.idl_tree.specs.Yields.{listed};
     ghost use Rattle.idl_tree.specs.Levels.{highest_listed};
-    ghost use Rattle.tree_laws.specs.Descent.{listed_way};
+    ghost use Rattle.idl_tree.specs.Descent.{listed_way};
 
     ghost yield_of = { listed T.yield_of };
 

@@ -2,7 +2,7 @@
 #![tactic(auto, using(crate::proofs::Reading::past_append, crate::proofs::Reading::past_none))]
 
 ghost use Rattle.std.specs.Prelude.{◌≡◌, ◌++◌, ℕ, IfErr, IfOk, List, codes, Some};
-ghost use Rattle.tree_laws.specs.Descent.{root_way, parts_way, name_way};
+ghost use Rattle.idl_tree.specs.Descent.{root_way, parts_way, name_way};
 ghost use Rattle.definition_reader.specs.inner.Following.{Ends};
 ghost use Rattle.definition_reader.specs.inner.Reading.{Parsed, Continued};
 ghost use Rattle.std.specs.List.{flat_map};
@@ -17,7 +17,7 @@ use idl_tree::names::{Leaf, Path, ScopedName};
 
 impl<'a> Part<'a> for Leaf<'a> {
     ghost use Rattle.idl_tree.specs.Yields.{identifier};
-    ghost use Rattle.tree_laws.specs.Descent.{identifier_way};
+    ghost use Rattle.idl_tree.specs.Descent.{identifier_way};
 
     ghost yield_of = { identifier };
 
@@ -32,7 +32,7 @@ impl<'a> Part<'a> for Leaf<'a> {
 
 impl<'a> Part<'a> for ScopedName<'a> {
     ghost use Rattle.idl_tree.specs.Yields.{name_yield};
-    ghost use Rattle.tree_laws.specs.Descent.{name_way};
+    ghost use Rattle.idl_tree.specs.Descent.{name_way};
 
     ghost yield_of = { name_yield };
 

@@ -3,7 +3,7 @@
 
 ghost use Rattle.std.specs.Prelude.{◌≡◌, ◌++◌, ◌≤◌, suc, ℕ, IfErr, IfOk, List, codes, Some};
 ghost use Rattle.std.specs.List.{flat_map};
-ghost use Rattle.tree_laws.specs.Descent.{const_type_way, declarator_way, end_sequence_way, enum_way, integer_size_way, integer_way, open_sequence_way, opened, param_type_way, sees_integer, simple_type_way, size_way, sizes_way, string_bound_way, switch_way};
+ghost use Rattle.idl_tree.specs.Descent.{const_type_way, declarator_way, end_sequence_way, enum_way, integer_size_way, integer_way, open_sequence_way, opened, param_type_way, sees_integer, simple_type_way, size_way, sizes_way, string_bound_way, switch_way};
 ghost use Rattle.definition_reader.specs.inner.Following.{Ends, sequence_way};
 ghost use Rattle.definition_reader.specs.inner.Reading.{Parsed, Continued};
 ghost use Rattle.idl_tree.specs.Pieces.{keyword, mark};
@@ -207,7 +207,7 @@ fn read_sizes<'a>(cursor: &mut Cursor<'a, '_>, room: usize) -> Result<Vec<ConstE
 impl<'a> Part<'a> for Declarator<'a> {
     ghost use Rattle.idl_tree.specs.TypeYields.{declarator_yield};
     ghost use Rattle.idl_tree.specs.TypeLevels.{declarator_levels};
-    ghost use Rattle.tree_laws.specs.Descent.{declarator_way};
+    ghost use Rattle.idl_tree.specs.Descent.{declarator_way};
 
     ghost yield_of = { declarator_yield };
 

@@ -1,7 +1,7 @@
 use Rattle.std.proofs.Common.{◌≡◌, ◌∙◌, sym, subst, length, None}
 use Rattle.giop.specs.Fronts.{IsRefused}
-use Rattle.giop_buffers.specs.Fronts.{HasTexts}
-use Rattle.giop_buffers.specs.Messages.{HasLength}
+use Rattle.giop.specs.GiopBuffersFronts.{HasTexts}
+use Rattle.giop.specs.Messages.{HasLength}
 use Rattle.idlc_c.specs.MessageAnswers.{number_of_buffer}
 use Rattle.idlc_c.proofs.MessageLaws.{needed_of}
 use Rattle.idlc_c.proofs.idlc_read_message.Goals as goal

@@ -4,7 +4,7 @@ use Rattle.idl_tree.specs.declared.definitions.Definition.{Definition}
 use Rattle.type_graph.specs.GraphRules.{IsGraph, IsShallow}
 use Rattle.type_model.specs.ModelRules.{IsModel}
 use Rattle.scoped_names.specs.FileNames.{AreNames, FileNames}
-use Rattle.part_names.specs.Names.{AreApart}
+use Rattle.type_model.specs.PartNamesNames.{AreApart}
 use Rattle.lowered_operations.specs.Definitions.{defined_by}
 use Rattle.lowered_operations.specs.Operations.{Defined}
 use Rattle.model_builder.specs.Shown.{model_of}

@@ -2,8 +2,8 @@
 use Rattle.std.specs.Prelude.{◌≡◌, ℕ, zero, suc, ◌<◌, ◌≤◌, Bool, true, cond, nat_lt, map, List, [], ◌∷◌, slice_get, length, Option, Some, None, Vec, Box}
 use Rattle.std.specs.declared.alloc.Global.{Global}
 use Rattle.std.specs.Map.{lookup}
-use Rattle.const_values.specs.declared.constant.Constant.{Constant}
-use Rattle.const_values.specs.declared.kind.ConstKind.{ConstKind}
+use Rattle.name_table.specs.declared.const_values.constant.Constant.{Constant}
+use Rattle.name_table.specs.declared.const_values.kind.ConstKind.{ConstKind}
 use Rattle.idl_lexer.specs.Words.{same_but_for_case}
 use Rattle.name_table.specs.declared.entry.Base.{Base}
 use Rattle.name_table.specs.declared.key.Key.{Key}

@@ -2,7 +2,7 @@
 use Rattle.std.specs.Prelude.{◌≡◌, ℕ, List, [], ◌∷◌, ◌++◌}
 use Rattle.std.specs.Fmt.{decimal}
 use Rattle.json.specs.Print.{print}
-use Rattle.escaped_json.specs.Escaped.{escaped}
+use Rattle.value_text.specs.Escaped.{escaped}
 use Rattle.table_commands.specs.declared.refusal.Refusal.TheVariants.{NoMemory, Refused}
 use Rattle.text_commands.specs.declared.refusal.TextRefusal.{TextRefusal}
 use Rattle.text_commands.specs.declared.refusal.TextRefusal.TheVariants.{Other}

@@ -3,9 +3,9 @@ use Rattle.std.specs.Str.{IsUtf8}
 use Rattle.std.specs.String.{string_bytes}
 use Rattle.json.specs.Lex.{tokens}
 use Rattle.json.specs.Print as json_text
-use Rattle.escaped_json.specs.Escaped.{escaped}
-use Rattle.escaped_json.proofs.Said.{says_the_same}
-use Rattle.part_names.specs.Names.{names_at}
+use Rattle.value_text.specs.Escaped.{escaped}
+use Rattle.value_text.proofs.Said.{says_the_same}
+use Rattle.type_model.specs.PartNamesNames.{names_at}
 use Rattle.type_graph.specs.Value.{node_at, Fits}
 use Rattle.idl_value.specs.View.{tree_of}
 use Rattle.value_text.specs.Texts.{text_at}

@@ -1,12 +1,12 @@
 -- What is read off tokens.
 use Rattle.std.specs.Prelude.{true, ◌≡◌, ◌≢◌, ◌⊎◌, ◌≤◌, ℕ, List, [], ◌∷◌, ◌++◌, map, zip, replicate, Option, IsPermutation, All}
 use Rattle.json.specs.Token.{Token, string, end_array, end_object, bad}
-use Rattle.part_names.specs.Names.{names_at}
+use Rattle.type_model.specs.PartNamesNames.{names_at}
 use Rattle.type_graph.specs.declared.node.Node.{Node}
 use Rattle.type_graph.specs.Value.{Tree, Trees, Number, Bytes, Items, IsText, IsBelow, count, node_at, Fits, FitAll}
 use Rattle.idl_value.specs.declared.value.Value.{Value}
 use Rattle.idl_value.specs.View.{tree_of}
-use Rattle.reference_values.specs.Stringified.{Stringifies}
+use Rattle.value_text.specs.Stringified.{Stringifies}
 use Rattle.value_text.specs.Texts.{refers}
 use Rattle.value_text.specs.Pieces.{characters, octet_of_tree, octets_of, joined, paired}
 use Rattle.value_text.specs.inner.Slots.{AreSlots, given}

@@ -1,7 +1,7 @@
 -- What is said of a text that is refused.
 use Rattle.std.specs.Prelude.{ℕ, ◌<◌, ◌≤◌, ◌^◌, ℤ, pos, negsuc, List, length}
 use Rattle.std.specs.List.{AllByRecursion}
-use Rattle.part_names.specs.Names.{AreApart, names_at}
+use Rattle.type_model.specs.PartNamesNames.{AreApart, names_at}
 use Rattle.type_graph.specs.declared.node.Node.{Node}
 use Rattle.json.specs.Token.{Token}
 use Rattle.type_graph.specs.declared.node.Node.TheVariants.{Octet, Enum}

@@ -1,8 +1,8 @@
 use Rattle.std.proofs.Common.{◌≡◌, ◌<◌, ◌≤◌, ℕ, max, List, length, take, sym, ap, subst, ◌∙◌, arith}
-use Rattle.reply_streams.specs.Room.{wanted}
+use Rattle.giop_messages.specs.ReplyStreamsRoom.{wanted}
 use Rattle.iiop_broker.specs.Ends.{Gives}
-use Rattle.reply_streams.specs.declared.heard.Heard.{Heard as Said}
-use Rattle.reply_streams.specs.Told.{told}
+use Rattle.giop_messages.specs.declared.reply_streams.heard.Heard.{Heard as Said}
+use Rattle.giop_messages.specs.Told.{told}
 use Rattle.giop_client.proofs.Reading.{ReadOn, broken, closed, goes_on, outcome_in, read_on, refused}
 use Rattle.giop_client.proofs.awaiting.await_reply.Goals as goal
 

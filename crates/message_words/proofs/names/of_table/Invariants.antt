@@ -1,5 +1,5 @@
 use Rattle.std.specs.Prelude.{◌≡◌, ◌<◌, ℕ, true, false, MatchOption, slice_get}
-use Rattle.called_operations.specs.Operations.{has_name}
+use Rattle.type_model.specs.Operations.{has_name}
 use Rattle.message_words.proofs.names.of_table.Given as goal
 
 -- no operation before the number has the name, or the first that was found has it

@@ -1,5 +1,5 @@
 use Rattle.std.proofs.Common.{◌∙◌, ◌<◌, length, ap, arith, sym}
-use Rattle.const_values.specs.Worth.{worth}
+use Rattle.name_table.specs.Worth.{worth}
 use Rattle.scoped_names.specs.Constants.{named_worth}
 use Rattle.scoped_names.proofs.Weights.{weight, list_weight, chain_weight, weight_at}
 use Rattle.scoped_names.proofs.ChainWorth.{chain_begins, chain_goes_on}

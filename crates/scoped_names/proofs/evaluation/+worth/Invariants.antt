@@ -1,5 +1,5 @@
 use Rattle.std.proofs.Common.{◌≡◌, drop}
-use Rattle.const_values.specs.Worth.{worth, whole_constant}
+use Rattle.name_table.specs.Worth.{worth, whole_constant}
 use Rattle.scoped_names.proofs.Weights.{weight}
 use Rattle.scoped_names.specs.Constants.{named_worth}
 use Rattle.scoped_names.proofs.ChainWorth.{operands_worth}

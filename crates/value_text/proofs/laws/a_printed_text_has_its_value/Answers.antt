@@ -1,4 +1,4 @@
-use Rattle.part_names.specs.Names.{names_at}
+use Rattle.type_model.specs.PartNamesNames.{names_at}
 use Rattle.type_graph.specs.Value.{node_at}
 use Rattle.value_text.specs.Texts.{text_at}
 use Rattle.value_text.proofs.PrintedTexts.{says}

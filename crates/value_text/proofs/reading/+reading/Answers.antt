@@ -8,7 +8,7 @@ use mir.Syntax.{w128}
 use mir.Val.{SFits, to_z, of_z}
 use Rattle.json.specs.Token.{key, string, begin_object, begin_array, end_object}
 use Rattle.json.specs.Reads.{token_of}
-use Rattle.part_names.specs.Names.{names_at}
+use Rattle.type_model.specs.PartNamesNames.{names_at}
 use Rattle.type_graph.specs.declared.node.Node.TheVariants.{Octet, Union}
 use Rattle.type_graph.specs.Value.{node_at, arm_of, count, NoTree, AndTree, Choice, IsNumeric}
 use Rattle.type_graph.specs.GraphRules.{held_by}

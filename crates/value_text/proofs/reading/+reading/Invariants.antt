@@ -1,5 +1,5 @@
 use Rattle.std.proofs.Common.{◌≡◌, ◌+◌, ◌*◌, ◌≤◌, length, take, replicate, option_to_list}
-use Rattle.part_names.specs.Names.{names_at}
+use Rattle.type_model.specs.PartNamesNames.{names_at}
 use Rattle.idl_value.specs.View.{trees_of}
 use Rattle.type_graph.specs.declared.node.Node.TheVariants.{Union}
 use Rattle.type_graph.specs.GraphRules.{held_by}

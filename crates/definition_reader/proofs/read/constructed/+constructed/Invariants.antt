@@ -4,7 +4,7 @@ use Rattle.definition_reader.specs.inner.Reading.{Continued}
 use Rattle.idl_tree.specs.Levels.{highest}
 use Rattle.idl_tree.specs.TypeYields.{member_yield, case_yield}
 use Rattle.idl_tree.specs.TypeLevels.{member_levels, case_levels}
-use Rattle.tree_laws.specs.Descent.{case_way, member_way, type_way}
+use Rattle.idl_tree.specs.Descent.{case_way, member_way, type_way}
 use Rattle.definition_reader.specs.inner.Following.{Bracing}
 use Rattle.definition_reader.proofs.read.constructed.+constructed.Given as goal
 

@@ -1,6 +1,6 @@
 use Rattle.definition_reader.proofs.Parts.{part_then}
 use Rattle.std.proofs.Common.{inr}
-use Rattle.tree_laws.specs.Descent.{label_way}
+use Rattle.idl_tree.specs.Descent.{label_way}
 use Rattle.definition_reader.proofs.Ways.{on, halts, past, seen, unseen, halts_seen, halts_unseen, only_false}
 use Rattle.definition_reader.proofs.read.constructed.read_label.Goals as goal
 

@@ -4,7 +4,7 @@ use Rattle.definition_reader.specs.inner.Reading.{Continued}
 use Rattle.idl_tree.specs.Levels.{highest}
 use Rattle.idl_tree.specs.TypeYields.{label_yield}
 use Rattle.idl_tree.specs.TypeLevels.{label_levels}
-use Rattle.tree_laws.specs.Descent.{label_way, sees_label}
+use Rattle.idl_tree.specs.Descent.{label_way, sees_label}
 use Rattle.definition_reader.specs.inner.Following.{Going}
 use Rattle.definition_reader.proofs.read.constructed.read_more_labels.Given as goal
 

@@ -1,6 +1,6 @@
 use Rattle.std.proofs.Common.{arith}
 use Rattle.definition_reader.proofs.Parts.{part_then}
-use Rattle.tree_laws.specs.DefinitionDescent.{const_way}
+use Rattle.idl_tree.specs.DefinitionDescent.{const_way}
 use Rattle.definition_reader.proofs.Ways.{on, halts, past}
 use Rattle.definition_reader.proofs.read.declarations.read_const.Goals as goal
 

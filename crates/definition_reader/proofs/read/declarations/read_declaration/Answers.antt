@@ -1,5 +1,5 @@
 use Rattle.std.proofs.Common.{◌∙◌, sym}
-use Rattle.tree_laws.specs.DefinitionDescent.{declaration_way}
+use Rattle.idl_tree.specs.DefinitionDescent.{declaration_way}
 use Rattle.definition_reader.proofs.Ways.{unseen, halts_unseen, tail_seen, tail_unseen, tail_halts_seen, tail_halts_unseen}
 use Rattle.definition_reader.proofs.read.declarations.read_declaration.Goals as goal
 

@@ -6,7 +6,7 @@ use Rattle.idl_tree.specs.Yields.{identifier}
 use Rattle.idl_tree.specs.TypeYields.{member_yield}
 use Rattle.definition_reader.proofs.Parts.{part_then}
 use Rattle.definition_reader.proofs.Pairs.{spelled_as, group_two}
-use Rattle.tree_laws.specs.DefinitionDescent.{except_way}
+use Rattle.idl_tree.specs.DefinitionDescent.{except_way}
 use Rattle.definition_reader.proofs.Ways.{two_on, two_past, two_halts}
 use Rattle.definition_reader.proofs.read.declarations.read_except.Goals as goal
 

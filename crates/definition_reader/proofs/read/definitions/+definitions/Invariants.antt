@@ -4,7 +4,7 @@ use Rattle.definition_reader.specs.inner.Reading.{Continued}
 use Rattle.idl_tree.specs.Levels.{highest}
 use Rattle.idl_tree.specs.DefinitionYields.{definition_yield}
 use Rattle.idl_tree.specs.DefinitionLevels.{definition_levels}
-use Rattle.tree_laws.specs.DefinitionDescent.{goes_on, definition_way}
+use Rattle.idl_tree.specs.DefinitionDescent.{goes_on, definition_way}
 use Rattle.definition_reader.specs.inner.Following.{Going}
 use Rattle.definition_reader.proofs.read.definitions.+definitions.Given as goal
 

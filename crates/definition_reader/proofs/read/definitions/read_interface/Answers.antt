@@ -10,7 +10,7 @@ use Rattle.idl_tree.specs.DefinitionLevels.{definition_levels}
 use Rattle.definition_reader.proofs.Parts.{part_then, part_then_more}
 use Rattle.definition_reader.proofs.Pairs.{spelled_as, group_three}
 use Rattle.definition_reader.proofs.Adding.{added_ended}
-use Rattle.tree_laws.specs.DefinitionDescent.{interface_way}
+use Rattle.idl_tree.specs.DefinitionDescent.{interface_way}
 use Rattle.definition_reader.proofs.Ways.{halts, past, halts_unseen, tail_way, tail_stops, tail_seen, tail_unseen, tail_halts_seen, tail_halts_unseen}
 use Rattle.definition_reader.proofs.read.definitions.read_interface.Goals as goal
 

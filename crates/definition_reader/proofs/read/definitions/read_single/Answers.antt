@@ -1,5 +1,5 @@
 use Rattle.std.proofs.Common.{◌∙◌, sym, inr, refl}
-use Rattle.tree_laws.specs.DefinitionDescent.{single_way}
+use Rattle.idl_tree.specs.DefinitionDescent.{single_way}
 use Rattle.definition_reader.proofs.Ways.{halts_unseen, tail_seen, tail_unseen, tail_halts_seen, tail_halts_unseen}
 use Rattle.definition_reader.proofs.read.definitions.read_single.Goals as goal
 

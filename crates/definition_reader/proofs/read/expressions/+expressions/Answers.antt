@@ -9,7 +9,7 @@ use Rattle.definition_reader.proofs.Operands.{all_more, unsigned, tightest}
 use Rattle.definition_reader.proofs.Parts.{part_then, part_then_more}
 use Rattle.definition_reader.proofs.Pairs.{handed, spelled_by, levels_by}
 use Rattle.definition_reader.proofs.Reading.{one_more, one_more_level, then_read, none_read, none_high}
-use Rattle.tree_laws.specs.Descent.{operand_way, level_way, inside_way}
+use Rattle.idl_tree.specs.Descent.{operand_way, level_way, inside_way}
 use Rattle.definition_reader.proofs.Ways.{operator_found, going_on, on, halts, past, seen, halts_seen, going_begins, going_ends, going_stops, okay, full_stops, ok_so, err_so, tail_unseen, tail_halts_unseen, unary_level, level_is, operand_is, inside_none, inside_at, ends_so}
 use Rattle.definition_reader.proofs.read.expressions.+expressions.Goals as goal
 

@@ -6,7 +6,7 @@ use Rattle.idl_tree.specs.Levels.{operand_levels}
 use Rattle.idl_tree.specs.Grouping.{IsOperandOf}
 use Rattle.idl_tree.specs.Yields.{operand_yield}
 use Rattle.std.specs.Prelude.{is_some}
-use Rattle.tree_laws.specs.Descent.{inside_way, level_way, operand_way, operator_at}
+use Rattle.idl_tree.specs.Descent.{inside_way, level_way, operand_way, operator_at}
 use Rattle.definition_reader.specs.inner.Following.{Going}
 use Rattle.definition_reader.proofs.read.expressions.+expressions.Given as goal
 

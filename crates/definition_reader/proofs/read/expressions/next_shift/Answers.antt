@@ -1,4 +1,4 @@
-use Rattle.tree_laws.specs.Descent.{if_seen}
+use Rattle.idl_tree.specs.Descent.{if_seen}
 use Rattle.idl_tree.specs.declared.expression.Operator.TheVariants.{ShiftRight}
 use Rattle.std.proofs.Common.{None, ◌∙◌, sym, ap, refl}
 use Rattle.definition_reader.proofs.Ways.{first_case, other_case, shift_at, and_on, and_off}

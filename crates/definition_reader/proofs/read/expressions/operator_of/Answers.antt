@@ -1,4 +1,4 @@
-use Rattle.tree_laws.specs.Descent.{operator_at}
+use Rattle.idl_tree.specs.Descent.{operator_at}
 use Rattle.std.proofs.Common.{◌∙◌, sym, ap}
 use Rattle.definition_reader.proofs.Ways.{or_at, xor_at, and_at}
 use Rattle.definition_reader.proofs.read.expressions.operator_of.Goals as goal

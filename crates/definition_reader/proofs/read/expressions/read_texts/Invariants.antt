@@ -3,7 +3,7 @@ use Rattle.std.specs.List.{flat_map}
 use Rattle.definition_reader.specs.inner.Reading.{Continued}
 use Rattle.idl_tree.specs.Yields.{text_yield}
 use Rattle.idl_lexer.specs.declared.token.Kind.TheVariants.{TextLit}
-use Rattle.tree_laws.specs.Descent.{sees_kind, taken_kind}
+use Rattle.idl_tree.specs.Descent.{sees_kind, taken_kind}
 use Rattle.definition_reader.specs.inner.Following.{Going}
 use Rattle.definition_reader.proofs.read.expressions.read_texts.Given as goal
 

@@ -5,7 +5,7 @@ use Rattle.idl_tree.specs.TypeYields.{param_type_yield}
 use Rattle.idl_tree.specs.DefinitionYields.{readonly_yield, attributes_yield}
 use Rattle.definition_reader.specs.inner.Reading.{Parsed}
 use Rattle.definition_reader.proofs.Parts.{part_then, more_then_part}
-use Rattle.tree_laws.specs.DefinitionDescent.{attribute_way}
+use Rattle.idl_tree.specs.DefinitionDescent.{attribute_way}
 use Rattle.definition_reader.proofs.Ways.{on, halts, past}
 use Rattle.definition_reader.proofs.read.interfaces.read_attribute.Goals as goal
 

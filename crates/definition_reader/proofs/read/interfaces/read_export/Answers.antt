@@ -3,7 +3,7 @@ use Rattle.idl_tree.specs.declared.definitions.Export.TheVariants as Exports
 use Rattle.idl_tree.specs.DefinitionYields.{export_yield}
 use Rattle.idl_tree.specs.DefinitionLevels.{export_levels}
 use Rattle.definition_reader.proofs.Adding.{added}
-use Rattle.tree_laws.specs.DefinitionDescent.{export_way}
+use Rattle.idl_tree.specs.DefinitionDescent.{export_way}
 use Rattle.definition_reader.proofs.Ways.{seen, halts_seen, okay, full_stops, tail_seen, tail_unseen, tail_halts_seen, tail_halts_unseen}
 use Rattle.definition_reader.proofs.read.interfaces.read_export.Goals as goal
 

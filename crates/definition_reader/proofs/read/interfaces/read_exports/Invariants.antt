@@ -4,8 +4,8 @@ use Rattle.definition_reader.specs.inner.Reading.{Continued}
 use Rattle.idl_tree.specs.Levels.{highest}
 use Rattle.idl_tree.specs.DefinitionYields.{export_yield}
 use Rattle.idl_tree.specs.DefinitionLevels.{export_levels}
-use Rattle.tree_laws.specs.Descent.{no_brace}
-use Rattle.tree_laws.specs.DefinitionDescent.{export_way}
+use Rattle.idl_tree.specs.Descent.{no_brace}
+use Rattle.idl_tree.specs.DefinitionDescent.{export_way}
 use Rattle.definition_reader.specs.inner.Following.{Going}
 use Rattle.definition_reader.proofs.read.interfaces.read_exports.Given as goal
 

@@ -1,5 +1,5 @@
 use Rattle.definition_reader.proofs.Parts.{part_then, part_then_more, more_then_part}
-use Rattle.tree_laws.specs.DefinitionDescent.{operation_way}
+use Rattle.idl_tree.specs.DefinitionDescent.{operation_way}
 use Rattle.definition_reader.proofs.Ways.{on, halts, past}
 use Rattle.definition_reader.proofs.read.interfaces.read_operation.Goals as goal
 

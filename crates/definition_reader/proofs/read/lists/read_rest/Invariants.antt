@@ -5,7 +5,7 @@ use Rattle.definition_reader.specs.inner.Reading.{Continued}
 use Rattle.definition_reader.specs.inner.Following.{Going}
 use Rattle.idl_tree.specs.Levels.{highest}
 use Rattle.idl_tree.specs.Pieces.{mark}
-use Rattle.tree_laws.specs.Descent.{sees_mark, mark_taken, and_then}
+use Rattle.idl_tree.specs.Descent.{sees_mark, mark_taken, and_then}
 use Rattle.definition_reader.proofs.read.lists.read_rest.Given as goal
 
 abbrev pub invariant-parts : goal.invariant-parts

@@ -1,7 +1,7 @@
 use Rattle.std.proofs.Common.{◌≡◌, ◌∙◌, vec_len, sym, arith}
 use Rattle.std.proofs.lemmas.Bool.Decides.{Decides-eqb}
 use Rattle.definition_reader.proofs.Reading.{alone_read}
-use Rattle.tree_laws.specs.Descent.{name_way}
+use Rattle.idl_tree.specs.Descent.{name_way}
 use Rattle.definition_reader.proofs.Ways.{halts, on, past}
 use Rattle.definition_reader.proofs.read.names.read_scoped_name.Goals as goal
 

@@ -1,6 +1,6 @@
 use Rattle.definition_reader.proofs.Parts.{part_then_more}
 use Rattle.std.proofs.Common.{◌∙◌, sym}
-use Rattle.tree_laws.specs.Descent.{const_type_way}
+use Rattle.idl_tree.specs.Descent.{const_type_way}
 use Rattle.definition_reader.proofs.Ways.{on, past, seen, unseen, halts_seen, halts_unseen}
 use Rattle.definition_reader.proofs.read.types.read_const_type.Goals as goal
 

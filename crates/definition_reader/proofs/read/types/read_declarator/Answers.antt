@@ -1,5 +1,5 @@
 use Rattle.definition_reader.proofs.Parts.{part_then_more}
-use Rattle.tree_laws.specs.Descent.{declarator_way}
+use Rattle.idl_tree.specs.Descent.{declarator_way}
 use Rattle.definition_reader.proofs.Ways.{on, halts, past}
 use Rattle.definition_reader.proofs.read.types.read_declarator.Goals as goal
 

@@ -1,4 +1,4 @@
-use Rattle.tree_laws.specs.Descent.{integer_way}
+use Rattle.idl_tree.specs.Descent.{integer_way}
 use Rattle.definition_reader.proofs.Ways.{on, past, seen, unseen, halts_seen, halts_unseen}
 use Rattle.definition_reader.proofs.read.types.read_integer.Goals as goal
 

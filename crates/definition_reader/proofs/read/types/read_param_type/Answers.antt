@@ -1,4 +1,4 @@
-use Rattle.tree_laws.specs.Descent.{param_type_way}
+use Rattle.idl_tree.specs.Descent.{param_type_way}
 use Rattle.definition_reader.proofs.Ways.{seen, unseen, halts_unseen}
 use Rattle.definition_reader.proofs.read.types.read_param_type.Goals as goal
 

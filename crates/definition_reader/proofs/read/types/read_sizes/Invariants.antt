@@ -4,7 +4,7 @@ use Rattle.definition_reader.specs.inner.Reading.{Continued}
 use Rattle.idl_tree.specs.Levels.{highest, const_expr_levels}
 use Rattle.idl_tree.specs.TypeYields.{size_yield}
 use Rattle.std.specs.Prelude.{codes}
-use Rattle.tree_laws.specs.Descent.{sees_mark, size_way}
+use Rattle.idl_tree.specs.Descent.{sees_mark, size_way}
 use Rattle.definition_reader.specs.inner.Following.{Going}
 use Rattle.definition_reader.proofs.read.types.read_sizes.Given as goal
 

@@ -1,5 +1,5 @@
 use Rattle.std.proofs.Common.{◌∙◌, sym}
-use Rattle.tree_laws.specs.Descent.{switch_way}
+use Rattle.idl_tree.specs.Descent.{switch_way}
 use Rattle.definition_reader.proofs.Ways.{seen, unseen, halts_seen, halts_unseen}
 use Rattle.definition_reader.proofs.read.types.read_switch.Goals as goal
 

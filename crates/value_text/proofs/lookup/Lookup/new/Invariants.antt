@@ -1,5 +1,5 @@
 use Rattle.std.proofs.Common.{ℕ, ◌<◌}
-use Rattle.part_names.specs.Names.{AreApart, names_at}
+use Rattle.type_model.specs.PartNamesNames.{AreApart, names_at}
 use Rattle.value_text.proofs.lookup.Lookup.new.Given as goal
 
 abbrev pub invariant-loop-number : goal.invariant-loop-number

@@ -1,4 +1,4 @@
-use Rattle.tree_laws.specs.DefinitionDescent.{param_way}
+use Rattle.idl_tree.specs.DefinitionDescent.{param_way}
 use Rattle.definition_reader.proofs.Ways.{on, halts, past}
 use Rattle.definition_reader.proofs.read.interfaces.ParamPart.read.Goals as goal
 

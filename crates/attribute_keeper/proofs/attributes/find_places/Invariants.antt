@@ -1,7 +1,0 @@
-use Rattle.std.proofs.Common.{◌≡◌, ℕ, List, drop}
-use Rattle.attribute_keeper.specs.Attributes.{place_from}
-use Rattle.attribute_keeper.specs.inner.Places.{place_in}
-use Rattle.attribute_keeper.proofs.attributes.find_places.Given as goal
-
-abbrev pub invariant-loop-place : goal.invariant-loop-place
-invariant-loop-place l = (name : List ℕ) → place_in l.places.entries name ≡ place_from l.model l.place name (drop l.place l.getters)

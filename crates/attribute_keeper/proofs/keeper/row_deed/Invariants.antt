@@ -1,6 +1,0 @@
-use Rattle.std.proofs.Common.{◌≡◌, drop}
-use Rattle.attribute_keeper.specs.Keeping.{action_in}
-use Rattle.attribute_keeper.proofs.keeper.row_deed.Given as goal
-
-abbrev pub invariant-loop-other : goal.invariant-loop-other
-invariant-loop-other l = action_in l.rows l.number ≡ action_in (drop l.other-index l.rows) l.number

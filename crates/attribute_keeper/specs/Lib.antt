@@ -1,4 +1,0 @@
-pub mod Attributes
-pub mod Keeping
-pub mod History
-pub mod inner

@@ -1,7 +1,0 @@
-use Rattle.std.proofs.Common.{◌≡◌, drop}
-use Rattle.called_operations.specs.Exceptions.{exception_with}
-use Rattle.called_operations.proofs.exception.exception_with.Given as goal
-
-abbrev pub invariant-loop-number : goal.invariant-loop-number
-invariant-loop-number l =
-    exception_with l.model l.id l.numbers ≡ exception_with l.model l.id (drop l.number-index l.numbers)

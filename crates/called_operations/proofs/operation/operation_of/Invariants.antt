@@ -1,8 +1,0 @@
-use Rattle.std.proofs.Common.{◌≡◌, drop}
-use Rattle.called_operations.specs.Operations.{operation_among}
-use Rattle.called_operations.proofs.operation.operation_of.Given as goal
-
-abbrev pub invariant-loop-interface : goal.invariant-loop-interface
-invariant-loop-interface l =
-    operation_among l.model l.id l.word l.model.interfaces
-    ≡ operation_among l.model l.id l.word (drop l.interface-index l.model.interfaces)

@@ -1,2 +1,0 @@
-pub mod Operations
-pub mod Exceptions

@@ -1,4 +1,0 @@
-pub mod Backlogs
-pub mod Follows
-pub mod Forms
-pub mod Refusal

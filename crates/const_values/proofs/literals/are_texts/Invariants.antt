@@ -1,8 +1,0 @@
-use Rattle.std.proofs.Common.{◌≡◌}
-use Rattle.idl_tree.specs.Lists.{parts}
-use Rattle.idl_tree.specs.PartsLeft.{parts_left}
-use Rattle.const_values.specs.Worth.{are_texts}
-use Rattle.const_values.proofs.literals.are_texts.Given as goal
-
-abbrev pub invariant-loop-leaf : goal.invariant-loop-leaf
-invariant-loop-leaf l = are_texts (parts_left l.leaf-iterator) ≡ are_texts (parts l.literals)

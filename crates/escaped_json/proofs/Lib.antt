@@ -1,4 +1,0 @@
-pub mod Passed
-pub mod Strings
-pub mod Numbers
-pub mod Said

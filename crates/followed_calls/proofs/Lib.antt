@@ -1,4 +1,0 @@
-pub mod Hops
-pub mod Tries
-pub mod Heeding
-pub mod Chains

@@ -1,6 +1,0 @@
-pub mod Hops
-pub mod Tries
-pub mod Heeded
-pub mod Followed
-pub mod Wanted
-pub mod inner

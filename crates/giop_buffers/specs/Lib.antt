@@ -1,3 +1,0 @@
--- Messages in buffers of the caller's.
-pub mod Messages
-pub mod Fronts

@@ -1,0 +1,3 @@
+//! Laws over the tree of an IDL specification.
+
+pub mod laws;

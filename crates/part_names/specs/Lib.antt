@@ -1,2 +1,0 @@
--- The names of the parts of nodes.
-pub mod Names

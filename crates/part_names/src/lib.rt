@@ -1,8 +1,0 @@
-//! The names of the parts of nodes: of members, enumerators, parameters and results.
-#![tactic(auto)]
-
-mod node;
-mod table;
-
-pub use node::NodeNames;
-pub use table::PartNames;

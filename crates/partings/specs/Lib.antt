@@ -1,2 +1,0 @@
-pub mod Parted
-pub mod inner

@@ -1,4 +1,0 @@
-pub mod Parts
-pub mod Alike
-pub mod Encoded
-pub mod Spelled

@@ -1,5 +1,0 @@
-use Rattle.reference_values.proofs.Spelled.{one_value}
-use Rattle.reference_values.proofs.laws.a_text_spells_one_value.Goals as goal
-
-pub returns : goal.returns
-returns c = λ text value other a b. one_value text value other a b

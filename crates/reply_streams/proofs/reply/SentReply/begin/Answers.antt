@@ -1,8 +1,0 @@
-use Rattle.std.proofs.Common.{sym, subst}
-use Rattle.giop_messages.specs.declared.head.MessageKind.TheVariants.{Reply}
-use Rattle.giop_messages.specs.Runs.{IsAlone}
-use Rattle.reply_streams.proofs.RunFacts.{first_run}
-use Rattle.reply_streams.proofs.reply.SentReply.begin.Goals as goal
-
-pub invariant_of-result : goal.invariant_of-result
-invariant_of-result c = subst (IsAlone Reply) (sym c.in_ok-octets_alone.ensures) (first_run c.args.first.now c.requires)

@@ -1,3 +1,0 @@
-pub mod Feeds
-pub mod Firsts
-pub mod Walks

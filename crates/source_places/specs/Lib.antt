@@ -1,4 +1,0 @@
-pub mod MarkerViews
-pub mod Markers
-pub mod PlaceViews
-pub mod Places

@@ -1,5 +1,0 @@
-pub mod Faults
-pub mod Once
-pub mod LineLists
-pub mod Texts
-pub mod Manners

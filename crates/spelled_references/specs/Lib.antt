@@ -1,7 +1,0 @@
-pub mod Spelled
-pub mod Refusal
-pub mod Shown
-pub mod Pieces
-pub mod Lines
-pub mod Described
-pub mod inner
