@@ -6,7 +6,7 @@ use Rattle.type_model.specs.declared.signatures.Exception.{Exception}
 use Rattle.type_model.specs.ModelRules.{Parts}
 use Rattle.giop_types.specs.TapeParts.{IsCounted}
 use Rattle.giop_types.proofs.GraphFacts.{giop_is_graph}
-use Rattle.object_references.proofs.ProfileKeys.{profile_key_once}
+use Rattle.reference_texts.proofs.ProfileKeys.{profile_key_once}
 use Rattle.giop_messages.specs.Headers.{here_tree, here_number, reply_tree, number_of}
 use Rattle.giop_messages.specs.Messages.{Asked, Asks, Answers, Cancels, Seeks, Closes, Fails, Sought}
 use Rattle.giop_messages.specs.Written.{Given}

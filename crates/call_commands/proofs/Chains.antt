@@ -1,15 +1,15 @@
 -- Calls that were forwarded one after the other.
 use Rattle.std.proofs.Common.{◌≡◌, ℕ, ◌+◌, ◌≤◌, List, [], ◌∷◌, ◌++◌, length, refl, sym, ap, ◌∙◌, subst, append_assoc, append-nil, length-append, inl, inr, Option, Some, None, Result, Ok, Err}
 use Rattle.iiop_broker.specs.Outcomes.{Ends}
-use Rattle.giop_client.specs.declared.fault.CallFault.{CallFault}
-use Rattle.giop_client.specs.declared.fault.CallFault.TheVariants.{TooManyForwards}
-use Rattle.object_references.specs.References.{Reference, reference_of}
-use Rattle.object_references.specs.declared.reference.Ior.{Ior}
-use Rattle.text_commands.specs.Outcomes.{Called}
-use Rattle.text_commands.specs.declared.call_texts.outcome.Outcome.{Outcome}
-use Rattle.text_commands.specs.declared.call_texts.outcome.Outcome.TheVariants.{Returned, Raised, Failed, Forwarded, Readdressed}
-use Rattle.giop_client.specs.Lines.{Line}
-use Rattle.giop_client.specs.Talks.{Asking}
+use Rattle.call_client.specs.declared.fault.CallFault.{CallFault}
+use Rattle.call_client.specs.declared.fault.CallFault.TheVariants.{TooManyForwards}
+use Rattle.reference_texts.specs.References.{Reference, reference_of}
+use Rattle.reference_texts.specs.declared.reference.Ior.{Ior}
+use Rattle.command_texts.specs.Outcomes.{Called}
+use Rattle.command_texts.specs.declared.call_texts.outcome.Outcome.{Outcome}
+use Rattle.command_texts.specs.declared.call_texts.outcome.Outcome.TheVariants.{Returned, Raised, Failed, Forwarded, Readdressed}
+use Rattle.call_client.specs.Lines.{Line}
+use Rattle.call_client.specs.Talks.{Asking}
 use Rattle.call_commands.specs.Heeded.{IsCalledHeeding, IsHeeded}
 use Rattle.call_commands.specs.Followed.{AreForwarded, At, IsFollowed, IsForwarded, IsLast, start}
 use Rattle.call_commands.specs.inner.Underway.{IsUnderway}

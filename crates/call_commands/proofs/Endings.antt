@@ -1,16 +1,16 @@
 -- How calls end, by their outcomes.
 use Rattle.std.proofs.Common.{◌≡◌, List, sym, subst, inr, Option, Some, Result, Ok, Err}
-use Rattle.object_references.specs.References.{Reference}
-use Rattle.text_commands.specs.declared.call_texts.outcome.Outcome.{Outcome}
-use Rattle.text_commands.specs.declared.call_texts.outcome.Outcome.TheVariants as outcomes
-use Rattle.giop_client.specs.Lines.{Line}
-use Rattle.giop_client.specs.Talks.{Telling}
+use Rattle.reference_texts.specs.References.{Reference}
+use Rattle.command_texts.specs.declared.call_texts.outcome.Outcome.{Outcome}
+use Rattle.command_texts.specs.declared.call_texts.outcome.Outcome.TheVariants as outcomes
+use Rattle.call_client.specs.Lines.{Line}
+use Rattle.call_client.specs.Talks.{Telling}
 use Rattle.call_commands.specs.Calls.{IsCarriedOut, IsEnding, IsLastOutcome, IsSaid, IsTextCalled}
 use Rattle.call_commands.specs.Choices.{Choice, chosen}
 use Rattle.call_commands.specs.declared.ask.TextCall.{TextCall}
 use Rattle.call_commands.specs.declared.ask.Types.{Types}
 use Rattle.call_commands.specs.declared.ending.Ending.{Ending}
-use Rattle.giop_client.specs.declared.fault.CallFault.{CallFault}
+use Rattle.call_client.specs.declared.fault.CallFault.{CallFault}
 use Rattle.call_commands.specs.declared.fault.CallRefusal.{CallRefusal}
 use Rattle.call_commands.specs.declared.fault.CallRefusal.TheVariants.{NoOperation, Unsaid, Unanswered}
 

@@ -1,17 +1,17 @@
 -- What one call says, whatever was handed back before.
 use Rattle.std.proofs.Common.{List, [], ◌∷◌, ◌++◌, refl, sym, ap, subst, append-nil, inl, inr, Option, Some, None, Result, Ok, Err}
 use Rattle.iiop_broker.specs.Outcomes.{Ends}
-use Rattle.giop_client.specs.declared.answer.Answer.{Answer}
-use Rattle.giop_client.specs.declared.fault.CallFault.{CallFault}
-use Rattle.giop_client.specs.declared.fault.CallFault.TheVariants.{NoMemory, NotReached}
-use Rattle.giop_client.specs.Answers.{answer_of}
-use Rattle.object_references.specs.References.{Reference}
+use Rattle.call_client.specs.declared.answer.Answer.{Answer}
+use Rattle.call_client.specs.declared.fault.CallFault.{CallFault}
+use Rattle.call_client.specs.declared.fault.CallFault.TheVariants.{NoMemory, NotReached}
+use Rattle.call_client.specs.Answers.{answer_of}
+use Rattle.reference_texts.specs.References.{Reference}
 use Rattle.reference_listing.specs.Listings.{AreRows, Row}
-use Rattle.text_commands.specs.Outcomes.{Called}
-use Rattle.text_commands.specs.declared.call_texts.outcome.Outcome.{Outcome}
-use Rattle.giop_client.specs.Forms.{Naming, naming}
-use Rattle.giop_client.specs.Lines.{Line}
-use Rattle.giop_client.specs.Talks.{Asking, IsCalledBy, IsGivenUp, IsTalkBy}
+use Rattle.command_texts.specs.Outcomes.{Called}
+use Rattle.command_texts.specs.declared.call_texts.outcome.Outcome.{Outcome}
+use Rattle.call_client.specs.Forms.{Naming, naming}
+use Rattle.call_client.specs.Lines.{Line}
+use Rattle.call_client.specs.Talks.{Asking, IsCalledBy, IsGivenUp, IsTalkBy}
 use Rattle.call_commands.specs.Hops.{InForm, IsCalledOnce, IsHop, IsOnce, IsOutcomeIn, just}
 
 -- what was handed back in a call, and the call as if nothing had been before

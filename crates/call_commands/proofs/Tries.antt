@@ -1,12 +1,12 @@
 -- Calls that are made once more.
 use Rattle.std.proofs.Common.{◌≡◌, true, false, List, ◌++◌, refl, subst, append_assoc, inl, inr, Option, Result, Err}
 use Rattle.iiop_broker.specs.Outcomes.{Ends}
-use Rattle.giop_client.specs.declared.fault.CallFault.{CallFault}
-use Rattle.giop_client.specs.declared.fault.CallFault.TheVariants.{CloseConnection, NoMemory}
-use Rattle.object_references.specs.References.{Reference}
-use Rattle.text_commands.specs.Outcomes.{Called}
-use Rattle.text_commands.specs.declared.call_texts.outcome.Outcome.{Outcome}
-use Rattle.giop_client.specs.Lines.{Line}
+use Rattle.call_client.specs.declared.fault.CallFault.{CallFault}
+use Rattle.call_client.specs.declared.fault.CallFault.TheVariants.{CloseConnection, NoMemory}
+use Rattle.reference_texts.specs.References.{Reference}
+use Rattle.command_texts.specs.Outcomes.{Called}
+use Rattle.command_texts.specs.declared.call_texts.outcome.Outcome.{Outcome}
+use Rattle.call_client.specs.Lines.{Line}
 use Rattle.call_commands.specs.Hops.{InForm, IsCalledOnce, IsHop, IsOnce}
 use Rattle.call_commands.specs.Tries.{IsCalledTwice, closes}
 

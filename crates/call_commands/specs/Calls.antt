@@ -1,16 +1,16 @@
 -- A call with its arguments as text, and how it ends.
 use Rattle.std.specs.Prelude.{◌≡◌, ◌⊎◌, ℕ, Bool, true, false, List, Option, Some, None, Result, Ok, Err}
 use Rattle.giop.specs.Made.{given}
-use Rattle.giop_client.specs.declared.fault.CallFault.{CallFault}
-use Rattle.giop_client.specs.declared.fault.CallFault.TheVariants as faults
-use Rattle.giop_client.specs.declared.request.Request.{Request}
-use Rattle.object_references.specs.References.{Reference}
-use Rattle.text_commands.specs.Bodies.{IsTapeOfText, SaysNone}
-use Rattle.text_commands.specs.Outcomes.{called}
-use Rattle.text_commands.specs.declared.call_texts.outcome.Outcome.{Outcome}
-use Rattle.text_commands.specs.declared.call_texts.outcome.Outcome.TheVariants as outcomes
-use Rattle.giop_client.specs.Lines.{Line}
-use Rattle.giop_client.specs.Talks.{Telling, asking}
+use Rattle.call_client.specs.declared.fault.CallFault.{CallFault}
+use Rattle.call_client.specs.declared.fault.CallFault.TheVariants as faults
+use Rattle.call_client.specs.declared.request.Request.{Request}
+use Rattle.reference_texts.specs.References.{Reference}
+use Rattle.command_texts.specs.Bodies.{IsTapeOfText, SaysNone}
+use Rattle.command_texts.specs.Outcomes.{called}
+use Rattle.command_texts.specs.declared.call_texts.outcome.Outcome.{Outcome}
+use Rattle.command_texts.specs.declared.call_texts.outcome.Outcome.TheVariants as outcomes
+use Rattle.call_client.specs.Lines.{Line}
+use Rattle.call_client.specs.Talks.{Telling, asking}
 use Rattle.call_commands.specs.Followed.{IsFollowed}
 use Rattle.call_commands.specs.Choices.{Choice, chosen}
 use Rattle.call_commands.specs.declared.ask.TextCall.{TextCall}

@@ -1,7 +1,7 @@
 -- What refusals come from.
-use Rattle.giop_client.specs.Causes.{cause_of as cause_of_fault}
-use Rattle.giop_client.specs.declared.fault.Cause.{Cause}
-use Rattle.giop_client.specs.declared.fault.Cause.TheVariants.{Input}
+use Rattle.call_client.specs.Causes.{cause_of as cause_of_fault}
+use Rattle.call_client.specs.declared.fault.Cause.{Cause}
+use Rattle.call_client.specs.declared.fault.Cause.TheVariants.{Input}
 use Rattle.call_commands.specs.declared.fault.CallRefusal.{CallRefusal}
 use Rattle.call_commands.specs.declared.fault.CallRefusal.TheVariants.{Unanswered}
 

@@ -7,7 +7,7 @@ use Rattle.type_model.specs.ModelRules.{Parts}
 use Rattle.giop_types.specs.GiopModel.{giop_model}
 use Rattle.giop_types.specs.GiopNodes.{boolean_result_node, id_argument_node}
 use Rattle.type_model.specs.Operations.{operation_of}
-use Rattle.text_commands.specs.Bodies.{Labels}
+use Rattle.command_texts.specs.Bodies.{Labels}
 use Rattle.call_commands.specs.declared.choice.Choice.{Choice as Chosen}
 
 -- an operation, with the types of its frames, the names of their parts, and the name that a request carries

@@ -1,15 +1,15 @@
 -- Calls that are forwarded.
 use Rattle.std.specs.Prelude.{◌≡◌, ◌≤◌, ◌⊎◌, ℕ, List, [], ◌∷◌, ◌++◌, length, Option, Some, Result, Ok, Err}
 use Rattle.iiop_broker.specs.Outcomes.{Ends}
-use Rattle.giop_client.specs.declared.fault.CallFault.{CallFault}
-use Rattle.giop_client.specs.declared.fault.CallFault.TheVariants.{TooManyForwards}
-use Rattle.object_references.specs.References.{Reference, reference_of}
-use Rattle.object_references.specs.declared.reference.Ior.{Ior}
-use Rattle.text_commands.specs.Outcomes.{Called}
-use Rattle.text_commands.specs.declared.call_texts.outcome.Outcome.{Outcome}
-use Rattle.text_commands.specs.declared.call_texts.outcome.Outcome.TheVariants.{Forwarded}
-use Rattle.giop_client.specs.Lines.{Line}
-use Rattle.giop_client.specs.Talks.{Asking, Telling}
+use Rattle.call_client.specs.declared.fault.CallFault.{CallFault}
+use Rattle.call_client.specs.declared.fault.CallFault.TheVariants.{TooManyForwards}
+use Rattle.reference_texts.specs.References.{Reference, reference_of}
+use Rattle.reference_texts.specs.declared.reference.Ior.{Ior}
+use Rattle.command_texts.specs.Outcomes.{Called}
+use Rattle.command_texts.specs.declared.call_texts.outcome.Outcome.{Outcome}
+use Rattle.command_texts.specs.declared.call_texts.outcome.Outcome.TheVariants.{Forwarded}
+use Rattle.call_client.specs.Lines.{Line}
+use Rattle.call_client.specs.Talks.{Asking, Telling}
 use Rattle.call_commands.specs.Heeded.{IsHeeded}
 
 -- what stands between two calls: where the object is, and what was dialled and handed back so far

@@ -2,15 +2,15 @@
 -- formats: NEEDS_ADDRESSING_MODE).
 use Rattle.std.specs.Prelude.{◌≡◌, ◌⊎◌, ℕ, zero, suc, List, ◌++◌, Option, Some, None, Result, Ok}
 use Rattle.iiop_broker.specs.Outcomes.{Ends}
-use Rattle.giop_client.specs.declared.fault.CallFault.{CallFault}
-use Rattle.object_references.specs.References.{Reference}
-use Rattle.text_commands.specs.Outcomes.{Called}
-use Rattle.text_commands.specs.declared.call_texts.outcome.Outcome.{Outcome}
-use Rattle.text_commands.specs.declared.call_texts.outcome.Outcome.TheVariants.{Readdressed}
-use Rattle.giop_client.specs.Lines.{Line}
-use Rattle.giop_client.specs.Talks.{Asking, Telling}
-use Rattle.giop_client.specs.declared.object_calls.form.Form.{Form}
-use Rattle.giop_client.specs.declared.object_calls.form.Form.TheVariants as forms
+use Rattle.call_client.specs.declared.fault.CallFault.{CallFault}
+use Rattle.reference_texts.specs.References.{Reference}
+use Rattle.command_texts.specs.Outcomes.{Called}
+use Rattle.command_texts.specs.declared.call_texts.outcome.Outcome.{Outcome}
+use Rattle.command_texts.specs.declared.call_texts.outcome.Outcome.TheVariants.{Readdressed}
+use Rattle.call_client.specs.Lines.{Line}
+use Rattle.call_client.specs.Talks.{Asking, Telling}
+use Rattle.call_client.specs.declared.object_calls.form.Form.{Form}
+use Rattle.call_client.specs.declared.object_calls.form.Form.TheVariants as forms
 use Rattle.call_commands.specs.Hops.{in_form}
 use Rattle.call_commands.specs.Tries.{IsTried}
 

@@ -2,18 +2,18 @@
 use Rattle.std.specs.Prelude.{◌≡◌, ◌⊎◌, List, [], ◌++◌, Option, Some, None, Result, Ok, Err}
 use Rattle.giop_messages.specs.Messages.{Answered}
 use Rattle.iiop_broker.specs.Outcomes.{Ends}
-use Rattle.giop_client.specs.declared.answer.Answer.{Answer}
-use Rattle.giop_client.specs.declared.fault.CallFault.{CallFault}
-use Rattle.giop_client.specs.declared.fault.CallFault.TheVariants.{NoMemory, OtherBody}
-use Rattle.giop_client.specs.Answers.{answer_of}
-use Rattle.object_references.specs.References.{Reference}
+use Rattle.call_client.specs.declared.answer.Answer.{Answer}
+use Rattle.call_client.specs.declared.fault.CallFault.{CallFault}
+use Rattle.call_client.specs.declared.fault.CallFault.TheVariants.{NoMemory, OtherBody}
+use Rattle.call_client.specs.Answers.{answer_of}
+use Rattle.reference_texts.specs.References.{Reference}
 use Rattle.reference_listing.specs.Listings.{AreRows, Row}
-use Rattle.text_commands.specs.Outcomes.{Called, HasNoOutcome, IsOutcome}
-use Rattle.text_commands.specs.declared.call_texts.outcome.Outcome.{Outcome}
-use Rattle.giop_client.specs.Lines.{Line}
-use Rattle.giop_client.specs.Forms.{naming}
-use Rattle.giop_client.specs.Talks.{Asking, IsCalledBy, Telling}
-use Rattle.giop_client.specs.declared.object_calls.form.Form.{Form}
+use Rattle.command_texts.specs.Outcomes.{Called, HasNoOutcome, IsOutcome}
+use Rattle.command_texts.specs.declared.call_texts.outcome.Outcome.{Outcome}
+use Rattle.call_client.specs.Lines.{Line}
+use Rattle.call_client.specs.Forms.{naming}
+use Rattle.call_client.specs.Talks.{Asking, IsCalledBy, Telling}
+use Rattle.call_client.specs.declared.object_calls.form.Form.{Form}
 
 -- what a call asks for, and the form in which its object is named
 pub record InForm : Type 0 where

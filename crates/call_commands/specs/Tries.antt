@@ -2,13 +2,13 @@
 -- that the requests that have no reply weren't processed.
 use Rattle.std.specs.Prelude.{◌≡◌, ◌⊎◌, Bool, true, false, List, ◌++◌, Option, Result, Err}
 use Rattle.iiop_broker.specs.Outcomes.{Ends}
-use Rattle.giop_client.specs.declared.fault.CallFault.{CallFault}
-use Rattle.giop_client.specs.declared.fault.CallFault.TheVariants.{CloseConnection}
-use Rattle.object_references.specs.References.{Reference}
-use Rattle.text_commands.specs.Outcomes.{Called}
-use Rattle.text_commands.specs.declared.call_texts.outcome.Outcome.{Outcome}
-use Rattle.giop_client.specs.Lines.{Line}
-use Rattle.giop_client.specs.Talks.{Telling}
+use Rattle.call_client.specs.declared.fault.CallFault.{CallFault}
+use Rattle.call_client.specs.declared.fault.CallFault.TheVariants.{CloseConnection}
+use Rattle.reference_texts.specs.References.{Reference}
+use Rattle.command_texts.specs.Outcomes.{Called}
+use Rattle.command_texts.specs.declared.call_texts.outcome.Outcome.{Outcome}
+use Rattle.call_client.specs.Lines.{Line}
+use Rattle.call_client.specs.Talks.{Telling}
 use Rattle.call_commands.specs.Hops.{InForm, IsHop, IsOnce}
 
 -- the server closed the connection by CloseConnection before it answered

@@ -1,5 +1,5 @@
 -- What is wanted of a call, as contracts see it.
-use Rattle.text_commands.specs.Outcomes.{Called, called}
+use Rattle.command_texts.specs.Outcomes.{Called, called}
 use Rattle.call_commands.specs.declared.followed_calls.wanted.Wanted.{Wanted}
 
 abbrev pub called_of : Wanted → Called

@@ -1,6 +1,6 @@
 //! Calls by words for operations and texts for arguments.
 
-ghost use Rattle.object_references.specs.References.{reference_of};
+ghost use Rattle.reference_texts.specs.References.{reference_of};
 ghost use Rattle.call_commands.specs.Calls.{IsTextCalled};
 
 use crate::ask::{TextCall, Types};
@@ -8,8 +8,8 @@ use crate::choice::choose;
 use crate::ending::Ending;
 use crate::fault::CallRefusal;
 use crate::sending::called;
-use giop_client::object_calls::Dial;
-use object_references::Ior;
+use call_client::object_calls::Dial;
+use reference_texts::Ior;
 use type_model::part_names::PartNames;
 use std::alloc::Global;
 

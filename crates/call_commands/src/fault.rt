@@ -3,7 +3,7 @@
 ghost use Rattle.std.specs.Prelude.{◌≡◌};
 ghost use Rattle.call_commands.specs.Causes.{cause_of};
 
-use giop_client::{CallFault, Cause};
+use call_client::{CallFault, Cause};
 use thiserror::Error;
 use value_text::Refusal as TextFault;
 

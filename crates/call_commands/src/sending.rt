@@ -2,21 +2,21 @@
 
 ghost use Rattle.std.specs.Prelude.{◌≡◌};
 ghost use Rattle.type_model.specs.Names.{IsNamed};
-ghost use Rattle.object_references.specs.References.{reference_of};
+ghost use Rattle.reference_texts.specs.References.{reference_of};
 ghost use Rattle.call_commands.specs.Calls.{IsCarriedOut, IsEnding, IsLastOutcome, IsSaid, flags};
-ghost use Rattle.text_commands.specs.Bodies.{IsTapeOfText};
+ghost use Rattle.command_texts.specs.Bodies.{IsTapeOfText};
 ghost use Rattle.call_commands.specs.Choices.{choice_of};
 
 use crate::ask::{TextCall, Types};
 use crate::choice::Choice;
 use crate::ending::Ending;
 use crate::fault::CallRefusal;
-use text_commands::call_texts::{Outcome, argument_tape};
+use command_texts::call_texts::{Outcome, argument_tape};
 use crate::followed_calls::{Wanted, call_object};
 use giop::Addressed;
-use giop_client::{CallFault, Request};
-use giop_client::object_calls::Dial;
-use object_references::Ior;
+use call_client::{CallFault, Request};
+use call_client::object_calls::Dial;
+use reference_texts::Ior;
 use std::alloc::Global;
 use value_text::ReadFault;
 

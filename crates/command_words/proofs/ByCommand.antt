@@ -1,8 +1,8 @@
 -- Which command asks for what.
 use Rattle.std.proofs.Common.{◌≡◌, ◌∙◌, refl, sym, List, Option, Some, IsSomeAnd, ap, codes, length, arith}
 use Rattle.clap.specs.Words.{Row, Text}
-use Rattle.table_commands.specs.declared.values.Way.{Way}
-use Rattle.table_commands.specs.declared.values.Way.TheVariants.{Encode, Decode}
+use Rattle.command_tables.specs.declared.values.Way.{Way}
+use Rattle.command_tables.specs.declared.values.Way.TheVariants.{Encode, Decode}
 use Rattle.command_words.specs.declared.task.Task.{Task}
 use Rattle.command_words.specs.Way.{name_of}
 use Rattle.command_words.specs.Ask.{Ask, Value, Reference, Explanation, Description, ValueAsk, ReferenceAsk, ask_of, command_of}

@@ -1,8 +1,8 @@
 -- In which form a value to encode or to decode is asked for.
 use Rattle.std.proofs.Common.{◌≡◌, ◌∙◌, refl, sym, false, true, List, Option, Some, None, is_some, codes, ap, Bool}
 use Rattle.clap.specs.Words.{Row, Text, first_of, one_of}
-use Rattle.table_commands.specs.declared.values.Way.{Way}
-use Rattle.table_commands.specs.declared.values.Way.TheVariants.{Encode, Decode}
+use Rattle.command_tables.specs.declared.values.Way.{Way}
+use Rattle.command_tables.specs.declared.values.Way.TheVariants.{Encode, Decode}
 use Rattle.command_words.specs.declared.task.Form.{Form}
 use Rattle.command_words.specs.declared.task.Form.TheVariants as forms
 use Rattle.command_words.specs.Words.{TellsInput}

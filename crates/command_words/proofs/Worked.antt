@@ -8,7 +8,7 @@ use Rattle.clap.specs.declared.builder.value_parser.ValueParser.TheVariants.{Boo
 use Rattle.clap.specs.declared.parser.matches.ValueSource.TheVariants.{CommandLine, DefaultValue}
 use Rattle.clap.proofs.OnLiterals.{clap_on_literals}
 use Rattle.type_graph.specs.declared.width.Order.TheVariants.{Big}
-use Rattle.table_commands.specs.declared.values.Way.TheVariants.{Encode}
+use Rattle.command_tables.specs.declared.values.Way.TheVariants.{Encode}
 use Rattle.command_words.specs.Ask.{Ask, CallAsk, DumpAsk, Explanation, Reference, Value}
 use Rattle.command_words.specs.declared.task.Form.TheVariants.{Hex, Text as AsText}
 use Rattle.command_words.specs.Commands.{program_app}

@@ -1,8 +1,8 @@
 -- What a run may be asked for.
 use Rattle.std.specs.Prelude.{ℕ, Bool, List, Option, Some, None, codes, option_map}
 use Rattle.type_graph.specs.declared.width.Order.{Order}
-use Rattle.table_commands.specs.Answer.{Ask as Marshalling, ask_of as marshalling_of}
-use Rattle.table_commands.specs.References.{ReferenceParts, reference_parts_of}
+use Rattle.command_tables.specs.Answer.{Ask as Marshalling, ask_of as marshalling_of}
+use Rattle.command_tables.specs.References.{ReferenceParts, reference_parts_of}
 use Rattle.command_words.specs.declared.task.Form.{Form}
 use Rattle.command_words.specs.declared.task.ValueTask.{ValueTask}
 use Rattle.command_words.specs.declared.task.ReferenceTask.{ReferenceTask}

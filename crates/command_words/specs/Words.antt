@@ -10,8 +10,8 @@ use Rattle.clap.specs.declared.error.kind.ErrorKind.{ErrorKind}
 use Rattle.clap.specs.declared.error.kind.ErrorKind.TheVariants.{DisplayHelp, DisplayVersion}
 use Rattle.type_graph.specs.declared.width.Order.{Order}
 use Rattle.type_graph.specs.declared.width.Order.TheVariants.{Big, Little}
-use Rattle.table_commands.specs.declared.values.Way.{Way}
-use Rattle.table_commands.specs.declared.values.Way.TheVariants.{Encode, Decode}
+use Rattle.command_tables.specs.declared.values.Way.{Way}
+use Rattle.command_tables.specs.declared.values.Way.TheVariants.{Encode, Decode}
 use Rattle.command_words.specs.declared.task.Form.{Form}
 use Rattle.command_words.specs.declared.task.Form.TheVariants as forms
 use Rattle.command_words.specs.Ask.{Ask, CallAsk, DumpAsk, Description, Explanation, Reference, ReferenceAsk, Value, ValueAsk, command_of}

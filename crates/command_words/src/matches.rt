@@ -9,7 +9,7 @@ ghost use Rattle.command_words.specs.Words.{IsUnclear, Tells, TellsCall, TellsDu
 
 use crate::task::{CallTask, DumpTask, Form, ReferenceTask, Service, Task, ValueTask};
 use clap::ArgMatches;
-use table_commands::{ReferenceRequest, ValueRequest, Way};
+use command_tables::{ReferenceRequest, ValueRequest, Way};
 use type_graph::Order;
 
 fn asked_in<'a>(

@@ -1,6 +1,6 @@
 //! What a run of the program may be asked to do.
 
-use table_commands::{ReferenceRequest, ValueRequest};
+use command_tables::{ReferenceRequest, ValueRequest};
 use type_graph::Order;
 
 /// How a value stands in words and lines.

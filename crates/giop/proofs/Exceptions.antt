@@ -10,7 +10,7 @@ use Rattle.giop_types.specs.GiopNodes.{giop_nodes}
 use Rattle.giop_types.proofs.PartTrees.{OfStruct, long_shape, text_shape, text_counted}
 use Rattle.giop_types.specs.TapeParts.{counted, IsCounted}
 use Rattle.giop_types.proofs.PartLaws.{counted_front, word_front}
-use Rattle.object_references.proofs.Shapes.{peel, none_left}
+use Rattle.reference_texts.proofs.Shapes.{peel, none_left}
 use Rattle.giop.specs.Bodies.{BeginsWith, Exception, HoldsException, exception_tree}
 use Rattle.giop.specs.inner.ReplyBodiesTapes.{HasTape, IsException}
 

@@ -7,8 +7,8 @@ use Rattle.giop_types.specs.Fields.{tagged_list_tree}
 use Rattle.giop_types.proofs.PartTrees.{struct_shape, text_shape, text_counted}
 use Rattle.giop_types.specs.TapeParts.{counted, tagged_list}
 use Rattle.giop_types.proofs.PartLaws.{counted_front, tagged_list_front}
-use Rattle.object_references.specs.References.{Reference, reference_tree, reference_tape, IsReference, IsFront}
-use Rattle.object_references.proofs.Shapes.{peel, none_left, tag_list}
+use Rattle.reference_texts.specs.References.{Reference, reference_tree, reference_tape, IsReference, IsFront}
+use Rattle.reference_texts.proofs.Shapes.{peel, none_left, tag_list}
 use Rattle.giop.specs.Bodies.{BeginsWith, HoldsReference}
 use Rattle.giop.specs.inner.ReplyBodiesTapes.{HasTape}
 

@@ -11,7 +11,7 @@ use Rattle.giop_types.proofs.PartTrees.{long_shape, octet_shape, struct_shape, t
 use Rattle.giop_messages.specs.Headers.{request_tree, reply_tree, cancel_tree, locate_tree}
 use Rattle.giop_types.specs.TapeParts.{counted, IsCounted}
 use Rattle.giop.specs.inner.Tapes.{Begins}
-use Rattle.object_references.proofs.Shapes.{peel, none_left, enumerator, sequence}
+use Rattle.reference_texts.proofs.Shapes.{peel, none_left, enumerator, sequence}
 
 -- three octets
 record Three (value : Tree) : Type 0 where

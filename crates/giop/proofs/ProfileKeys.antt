@@ -3,7 +3,7 @@ use Rattle.std.proofs.Common.{◌≡◌, ℕ, zero, suc, List, [], refl, sym, ap
 use Rattle.type_graph.specs.Words.{reading}
 use Rattle.type_graph.specs.Value.{Tree}
 use Rattle.giop_types.specs.Fields.{Holds}
-use Rattle.object_references.specs.Profiles.{Body, HasKey, body_node, body_tree}
+use Rattle.reference_texts.specs.Profiles.{Body, HasKey, body_node, body_tree}
 use Rattle.reference_listing.specs.Listings.{Iiop, IsIiop}
 
 pub has_key : (profile : ℕ × List ℕ) (iiop : Iiop) → IsIiop profile iiop → HasKey profile iiop.body.key

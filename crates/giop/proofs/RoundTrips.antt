@@ -18,7 +18,7 @@ use Rattle.giop_messages.specs.declared.head.MessageKind.TheVariants as kinds
 use Rattle.giop_messages.specs.declared.head.Head.{Head}
 use Rattle.giop_messages.specs.Heads.{head_in, max_size, number_in}
 use Rattle.giop_types.specs.Fields.{Holds, octet_trees}
-use Rattle.object_references.proofs.Encapsulated.{held_read}
+use Rattle.reference_texts.proofs.Encapsulated.{held_read}
 use Rattle.giop_messages.specs.declared.message.ReplyStatus.{ReplyStatus}
 use Rattle.giop_messages.specs.Headers.{ByKey, key_target, number_of, reply_tree, request_tree}
 use Rattle.giop_messages.specs.Messages.{HasHeader, body_after}

@@ -15,7 +15,7 @@ use Rattle.giop_messages.specs.Headers.{key_target, profile_target, reference_ta
 use Rattle.giop_types.specs.TapeParts.{counted, IsCounted, tagged_list, AreTagged}
 use Rattle.giop.specs.inner.Tapes.{Begins, HasValue, CountedFront, TaggedFront, SelectedFront}
 use Rattle.giop_types.proofs.PartTrees.{long_shape, struct_shape, text_shape, text_counted}
-use Rattle.object_references.proofs.Shapes.{peel, none_left, counted_value, tag_value, tag_list}
+use Rattle.reference_texts.proofs.Shapes.{peel, none_left, counted_value, tag_value, tag_list}
 
 abbrev arms : List (ℤ × ℕ)
 arms = (pos 0, 10) ∷ (pos 1, 11) ∷ (pos 2, 15) ∷ []

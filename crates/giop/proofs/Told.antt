@@ -2,9 +2,9 @@
 use Rattle.std.proofs.Common.{◌≡◌, ℕ, ℤ, List, Option, Some, None, slice_get, refl, sym, ap₂, ◌∙◌, subst}
 use Rattle.type_graph.specs.Value.{Tree, Choice, NoTree}
 use Rattle.giop_types.specs.Fields.{tagged_tree, tagged_trees}
-use Rattle.object_references.specs.Profiles.{HasKey}
+use Rattle.reference_texts.specs.Profiles.{HasKey}
 use Rattle.giop_messages.specs.Headers.{IsKeyOf, TellsKey, ByKey, ByProfile, ByReference, key_target, profile_target, reference_target}
-use Rattle.object_references.proofs.TreeLaws.{tagged_same, all_tagged_same}
+use Rattle.reference_texts.proofs.TreeLaws.{tagged_same, all_tagged_same}
 use Rattle.giop.specs.inner.Tapes.{IsAt, IsIn}
 
 -- the same of an equal target

@@ -11,9 +11,9 @@ use Rattle.giop_types.specs.declared.tapes.fault.TapeFault.{TapeFault}
 use Rattle.giop_types.specs.GiopNodes.{giop_nodes}
 use Rattle.giop_types.specs.Fields.{number_tree, octet_trees, octets_tree, struct_tree, tagged_tree, tagged_trees, tagged_list_tree}
 use Rattle.giop_types.proofs.PartTrees.{count_octets, octets_counted, octets_tape, tagged_fits, tagged_tape, count_tagged, tagged_list_tape}
-use Rattle.object_references.specs.References.{AreBelow, Reference, IsReference, reference_tape, reference_tree}
-use Rattle.object_references.proofs.ListLaws.{octets_below, writing_weaker}
-use Rattle.object_references.proofs.ReferenceTapes.{fitting}
+use Rattle.reference_texts.specs.References.{AreBelow, Reference, IsReference, reference_tape, reference_tree}
+use Rattle.reference_texts.proofs.ListLaws.{octets_below, writing_weaker}
+use Rattle.reference_texts.proofs.ReferenceTapes.{fitting}
 use Rattle.giop_messages.specs.Headers.{key_target, profile_target, reference_target}
 use Rattle.giop.specs.inner.Pushed.{FitsAsTarget, PushesTarget}
 

@@ -1,7 +1,7 @@
 -- How the object of a request is named to its server.
 use Rattle.type_graph.specs.Value.{Tree}
 use Rattle.giop_types.specs.TapeParts.{pair_of}
-use Rattle.object_references.specs.References.{owned_pairs}
+use Rattle.reference_texts.specs.References.{owned_pairs}
 use Rattle.giop_messages.specs.Headers.{key_target, profile_target, reference_target}
 use Rattle.giop.specs.declared.writing.target.Addressed.{Addressed}
 use Rattle.giop.specs.declared.writing.target.Addressed.TheVariants.{Key, Profile, Reference}

@@ -5,7 +5,7 @@ use Rattle.type_graph.specs.Words.{reading}
 use Rattle.type_graph.specs.Value.{Tree, Bytes}
 use Rattle.giop_types.specs.GiopNodes.{system_exception_node}
 use Rattle.giop_types.specs.Fields.{Holds, number_tree, struct_tree}
-use Rattle.object_references.specs.References.{Reference, reference_tree}
+use Rattle.reference_texts.specs.References.{Reference, reference_tree}
 use Rattle.giop.specs.declared.reply_bodies.exception.SystemException.{SystemException}
 
 -- The octets at a place of a message begin with this value of the node; whatever stands in the gaps and behind.

@@ -3,14 +3,14 @@
 ghost use Rattle.std.specs.Prelude.{◌≡◌, ℕ, List, IfOk, IfErr};
 ghost use Rattle.std.specs.Bool.{OnFalse};
 ghost use Rattle.std.specs.String.{string_bytes};
-ghost use Rattle.object_references.specs.Profiles.{IsProfile};
-ghost use Rattle.object_references.specs.References.{Reference, reference_of};
-ghost use Rattle.object_references.specs.Refusal.{wants_memory};
-ghost use Rattle.object_references.specs.Texts.{IsTextOf, Spells};
+ghost use Rattle.reference_texts.specs.Profiles.{IsProfile};
+ghost use Rattle.reference_texts.specs.References.{Reference, reference_of};
+ghost use Rattle.reference_texts.specs.Refusal.{wants_memory};
+ghost use Rattle.reference_texts.specs.Texts.{IsTextOf, Spells};
 ghost use Rattle.giop_types.specs.GiopModel.{giop_table};
 
 use giop_types::GiopTypes;
-use object_references::{Ior, ReferenceFault};
+use reference_texts::{Ior, ReferenceFault};
 use position_checker::Accepted;
 use std::alloc::{AllocError, Global};
 use std::marker::Model;
@@ -78,7 +78,7 @@ impl Giop {
         ensures refused { IfErr result (λ fault.
             OnFalse (wants_memory fault) ((octets : List ℕ) → IsProfile host.now port key.now octets → ⊥)) }
     {
-        object_references::profile(&self.types, alloc, host, port, key)
+        reference_texts::profile(&self.types, alloc, host, port, key)
     }
 
     /// The text of a reference: `IOR:` and the digits, in lower case, of its encapsulation in big
@@ -91,7 +91,7 @@ impl Giop {
         ensures refused { IfErr result (λ fault.
             OnFalse (wants_memory fault) ((text : List ℕ) → IsTextOf (reference_of ior.now) text → ⊥)) }
     {
-        object_references::ior_to_text(&self.types, alloc, ior)
+        reference_texts::ior_to_text(&self.types, alloc, ior)
     }
 
     /// The reference that a text spells: `IOR:`, in letters of either case, and the digits, of
@@ -104,6 +104,6 @@ impl Giop {
         ensures refused { IfErr result (λ fault.
             OnFalse (wants_memory fault) ((reference : Reference) → Spells text.now reference → ⊥)) }
     {
-        object_references::ior_from_text(&self.types, alloc, text)
+        reference_texts::ior_from_text(&self.types, alloc, text)
     }
 }

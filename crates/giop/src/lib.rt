@@ -15,6 +15,6 @@ pub use front::Front;
 pub use giop_calls::Giop;
 pub use giop_messages::{GiopFault, Locate, Message, Reply, ReplyStatus, Request, Run};
 pub use giop_types::Tagged;
-pub use object_references::{Ior, ReferenceFault};
+pub use reference_texts::{Ior, ReferenceFault};
 pub use writing::body::Body;
 pub use writing::target::Addressed;

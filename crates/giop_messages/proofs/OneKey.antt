@@ -2,8 +2,8 @@
 use Rattle.std.proofs.Common.{◌≡◌, ℕ, List, Option, Some, None, slice_get, refl, sym, ap, ap₂, ◌∙◌, subst}
 use Rattle.type_graph.specs.Value.{Tree}
 use Rattle.giop_types.specs.Fields.{octet_trees, tagged_tree, tagged_trees}
-use Rattle.object_references.specs.Profiles.{HasKey}
-use Rattle.object_references.proofs.TreeLaws.{octets_same, tagged_same, all_tagged_same}
+use Rattle.reference_texts.specs.Profiles.{HasKey}
+use Rattle.reference_texts.proofs.TreeLaws.{octets_same, tagged_same, all_tagged_same}
 use Rattle.giop_messages.specs.Headers.{TellsKey, ByKey, ByProfile, ByReference, IsKeyOf, key_target, profile_target, reference_target}
 
 -- a profile tells one key

@@ -10,7 +10,7 @@ use Rattle.giop_messages.specs.declared.head.MessageKind.{MessageKind}
 use Rattle.giop_messages.specs.declared.head.MessageKind.TheVariants as kinds
 use Rattle.giop_messages.specs.declared.head.Head.{Head}
 use Rattle.giop_types.specs.GiopNodes.{giop_nodes}
-use Rattle.object_references.specs.Profiles.{HasKey}
+use Rattle.reference_texts.specs.Profiles.{HasKey}
 use Rattle.giop_messages.specs.Headers.{IsKeyOf, request_tree, reply_tree, cancel_tree, locate_tree, number_of}
 use Rattle.giop_messages.specs.Messages.{Asked, Answered, Sought, Content, Asks, Answers, Cancels, Seeks, Closes, Fails, IsWhole, HasHeader, HasBody, body_after, IsRequest, IsReply, IsCancel, IsLocate, Says}
 use Rattle.giop_messages.specs.declared.message.ReplyStatus.{ReplyStatus}

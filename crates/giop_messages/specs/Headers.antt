@@ -3,7 +3,7 @@
 use Rattle.std.specs.Prelude.{◌≡◌, ℕ, pos, Bool, true, false, List, [], ◌∷◌, Option, Some, None, slice_get}
 use Rattle.type_graph.specs.Value.{Tree, Bytes, Items, Choice, Trees}
 use Rattle.giop_types.specs.Fields.{number_tree, trees, struct_tree, octets_tree, tagged_tree, tagged_list_tree}
-use Rattle.object_references.specs.Profiles.{HasKey}
+use Rattle.reference_texts.specs.Profiles.{HasKey}
 use Rattle.giop_messages.specs.declared.message.ReplyStatus.{ReplyStatus}
 use Rattle.giop_messages.specs.declared.message.ReplyStatus.TheVariants.{NoException, UserException, SystemException, LocationForward, LocationForwardPerm, NeedsAddressingMode}
 

@@ -2,8 +2,8 @@
 use Rattle.std.proofs.Common.{ℕ, ◌≤◌, arith}
 use Rattle.std.specs.Bool.{OnFalse}
 use Rattle.std.specs.Prelude.{Result, Ok, Err, IfErr}
-use Rattle.run_steps.specs.declared.fault.RunFault.{RunFault}
-use Rattle.run_steps.specs.declared.fault.RunFault.TheVariants as runs
+use Rattle.program_steps.specs.declared.fault.RunFault.{RunFault}
+use Rattle.program_steps.specs.declared.fault.RunFault.TheVariants as runs
 use Rattle.program_runner.specs.Refusal.{wants_memory}
 use Rattle.idlc_c.specs.declared.refusal.Refusal.{Refusal}
 use Rattle.idlc_c.specs.declared.refusal.Refusal.TheVariants.{NoMemory, NotLoaded, NotNamed, NoRoom, TooLong, NoTable, NotRight, NoValue, NoText}

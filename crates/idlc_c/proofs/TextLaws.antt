@@ -1,8 +1,8 @@
 -- What a number says of an answer about a text.
 use Rattle.std.proofs.Common.{◌≡◌, inl, inr, ℕ, ◌<◌, ◌≤◌, refl, arith}
 use Rattle.std.specs.Prelude.{Result, Ok, Err, IfErr}
-use Rattle.run_steps.specs.declared.fault.RunFault.{RunFault}
-use Rattle.run_steps.specs.declared.fault.RunFault.TheVariants as runs
+use Rattle.program_steps.specs.declared.fault.RunFault.{RunFault}
+use Rattle.program_steps.specs.declared.fault.RunFault.TheVariants as runs
 use Rattle.value_text.specs.declared.fault.Wanted.{Wanted}
 use Rattle.value_text.specs.declared.fault.Wanted.TheVariants as wanted
 use Rattle.idlc_c.specs.declared.refusal.Refusal.{Refusal}

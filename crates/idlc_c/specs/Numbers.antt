@@ -2,8 +2,8 @@
 use Rattle.std.specs.Prelude.{ℕ, Result, Ok, Err}
 use Rattle.marshal_program.specs.declared.fault.TableFault.{TableFault}
 use Rattle.marshal_program.specs.declared.fault.TableFault.TheVariants as files
-use Rattle.run_steps.specs.declared.fault.RunFault.{RunFault}
-use Rattle.run_steps.specs.declared.fault.RunFault.TheVariants as runs
+use Rattle.program_steps.specs.declared.fault.RunFault.{RunFault}
+use Rattle.program_steps.specs.declared.fault.RunFault.TheVariants as runs
 use Rattle.routine_checker.specs.declared.fault.RoutinePlace.{RoutinePlace}
 use Rattle.routine_checker.specs.declared.fault.CheckFault.{CheckFault}
 use Rattle.routine_checker.specs.declared.fault.CheckFault.TheVariants as checks

@@ -7,7 +7,7 @@ use Rattle.command_words.specs.declared.task.Task.{Task}
 use Rattle.command_words.specs.declared.task.Task.TheVariants as tasks
 use Rattle.command_words.specs.Ask.{Ask, Value, Reference, Explanation, Description, ask_of, reference_ask_of, value_ask_of}
 use Rattle.idlc_main.specs.Answer.{IsAnswer}
-use Rattle.table_commands.specs.Named.{Passing}
+use Rattle.command_tables.specs.Named.{Passing}
 use Rattle.idlc_main.specs.declared.told.Answer.{Answer}
 
 -- the task that the words were read as asks for what they ask for

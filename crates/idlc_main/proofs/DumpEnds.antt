@@ -2,8 +2,8 @@
 use Rattle.std.proofs.Common.{refl, sym, subst, ℕ, List, Option}
 use Rattle.idl_compiler.specs.declared.refusal.CompileRefusal.{CompileRefusal}
 use Rattle.idl_compiler.specs.declared.refusal.CompileRefusal.TheVariants as sources
-use Rattle.named_tables.specs.declared.fault.NamedFault.{NamedFault}
-use Rattle.named_tables.specs.declared.fault.NamedFault.TheVariants as tables
+use Rattle.command_files.specs.declared.fault.NamedFault.{NamedFault}
+use Rattle.command_files.specs.declared.fault.NamedFault.TheVariants as tables
 use Rattle.idlc_main.specs.declared.fault.Fault.{Fault}
 use Rattle.idlc_main.specs.declared.fault.Fault.TheVariants.{Explained}
 use Rattle.idlc_main.specs.Dumps.{IsDumpEnd}

@@ -8,12 +8,12 @@ use Rattle.command_words.specs.declared.mistake.Mistake.{Mistake}
 use Rattle.command_words.specs.declared.mistake.Mistake.TheVariants as mistakes
 use Rattle.idl_compiler.specs.declared.refusal.CompileRefusal.{CompileRefusal}
 use Rattle.idl_compiler.specs.declared.refusal.CompileRefusal.TheVariants as sources
-use Rattle.named_tables.specs.declared.fault.NamedFault.{NamedFault}
-use Rattle.named_tables.specs.declared.fault.NamedFault.TheVariants as tables
+use Rattle.command_files.specs.declared.fault.NamedFault.{NamedFault}
+use Rattle.command_files.specs.declared.fault.NamedFault.TheVariants as tables
 use Rattle.idlc_main.specs.Fault.{IsOfNamed, fault_of_source, fault_of_words, status_of, status_of_refusal, status_of_spelling}
-use Rattle.table_commands.specs.Named.{Passing}
-use Rattle.table_commands.specs.declared.refusal.Refusal.{Refusal}
-use Rattle.table_commands.specs.declared.refusal.Refusal.TheVariants as refusals
+use Rattle.command_tables.specs.Named.{Passing}
+use Rattle.command_tables.specs.declared.refusal.Refusal.{Refusal}
+use Rattle.command_tables.specs.declared.refusal.Refusal.TheVariants as refusals
 use Rattle.command_words.specs.Ask.{Ask, Description, Explanation, Reference, Value}
 use Rattle.idlc_main.specs.Answer.{IsAnswer, IsEndOf, IsExplanationFault, IsFaultOf, IsStrange}
 use Rattle.idlc_main.specs.Descriptions.{IsDescriptionFault}

@@ -4,8 +4,8 @@ use Rattle.std.specs.Str.{IsTrimAscii}
 use Rattle.reference_listing.specs.Refusal.{RefusesSpelling}
 use Rattle.reference_listing.specs.declared.spelled_references.fault.SpellingFault.{SpellingFault}
 use Rattle.reference_listing.specs.declared.spelled_references.fault.SpellingFault.TheVariants.{BadIor, BadCorbaloc, NoMemory}
-use Rattle.table_commands.specs.Named.{Passing}
-use Rattle.named_tables.specs.Values.{IsTextFor}
+use Rattle.command_tables.specs.Named.{Passing}
+use Rattle.command_files.specs.Values.{IsTextFor}
 use Rattle.idlc_main.specs.Descriptions.{IsNoReference}
 
 pub no_reference : (Reads : Passing) (word whole text : List ℕ) (fault : SpellingFault) → IsTextFor Reads word whole → IsTrimAscii whole text

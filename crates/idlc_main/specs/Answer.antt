@@ -2,12 +2,12 @@
 use Rattle.std.specs.Prelude.{◌≡◌, ◌≢◌, ◌⊎◌, ℕ, List, [], Option, Some, None, Result, Ok, Err, IfOk, IfErr}
 use Rattle.std.specs.String.{string_bytes}
 use Rattle.std.specs.Io.KnownBytes.{Appends, Keeps}
-use Rattle.fault_texts.specs.Named.{AreTexts, lines_below}
-use Rattle.socket_server.specs.Lines.{serving}
-use Rattle.table_commands.specs.Named.{Passing}
-use Rattle.named_tables.specs.Answers.{IsReferenceFault, IsReferenceOf}
-use Rattle.named_tables.specs.Values.{IsValueFault, IsValueLine}
-use Rattle.named_tables.specs.declared.fault.NamedFault.{NamedFault}
+use Rattle.diagnostic_texts.specs.Named.{AreTexts, lines_below}
+use Rattle.broker_sockets.specs.Lines.{serving}
+use Rattle.command_tables.specs.Named.{Passing}
+use Rattle.command_files.specs.Answers.{IsReferenceFault, IsReferenceOf}
+use Rattle.command_files.specs.Values.{IsValueFault, IsValueLine}
+use Rattle.command_files.specs.declared.fault.NamedFault.{NamedFault}
 use Rattle.idlc_main.specs.declared.fault.Fault.{Fault}
 use Rattle.idlc_main.specs.declared.fault.Fault.TheVariants.{NoRefusal, NoMemory}
 use Rattle.idlc_main.specs.Descriptions.{IsDescribed, IsDescriptionFault}

@@ -5,9 +5,9 @@ use Rattle.reference_listing.specs.Described.{IsDescription}
 use Rattle.reference_listing.specs.Refusal.{SpellsNone}
 use Rattle.reference_listing.specs.declared.spelled_references.fault.SpellingFault.{SpellingFault}
 use Rattle.reference_listing.specs.declared.spelled_references.fault.SpellingFault.TheVariants.{BadIor, BadCorbaloc, NoMemory as WantsMemory}
-use Rattle.table_commands.specs.Named.{Passing}
-use Rattle.named_tables.specs.Values.{HasNoInput, IsTextFor}
-use Rattle.named_tables.specs.declared.fault.NamedFault.TheVariants as named
+use Rattle.command_tables.specs.Named.{Passing}
+use Rattle.command_files.specs.Values.{HasNoInput, IsTextFor}
+use Rattle.command_files.specs.declared.fault.NamedFault.TheVariants as named
 use Rattle.value_text.specs.declared.fault.Refusal.{Refusal as TextFault}
 use Rattle.idlc_main.specs.declared.fault.Fault.{Fault}
 use Rattle.idlc_main.specs.declared.fault.Fault.TheVariants.{Refused, NotSpelled, NoMemory}

@@ -1,8 +1,8 @@
 -- What stands on standard output where a capture isn't told to its end.
 use Rattle.std.specs.Prelude.{◌≡◌, ◌⊎◌, ℕ, List, Option}
-use Rattle.message_dumps.specs.declared.fault.DumpFault.{DumpFault}
-use Rattle.message_dumps.specs.declared.fault.DumpFault.TheVariants as dumps
-use Rattle.message_dumps.specs.Outputs.{HasGrown}
+use Rattle.giop_dumps.specs.declared.fault.DumpFault.{DumpFault}
+use Rattle.giop_dumps.specs.declared.fault.DumpFault.TheVariants as dumps
+use Rattle.giop_dumps.specs.Outputs.{HasGrown}
 use Rattle.idlc_main.specs.declared.fault.Fault.{Fault}
 use Rattle.idlc_main.specs.declared.fault.Fault.TheVariants.{CutShort, Unwritten}
 

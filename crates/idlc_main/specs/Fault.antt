@@ -4,18 +4,18 @@ use Rattle.command_words.specs.declared.mistake.Mistake.{Mistake}
 use Rattle.command_words.specs.declared.mistake.Mistake.TheVariants as mistakes
 use Rattle.idl_compiler.specs.declared.refusal.CompileRefusal.{CompileRefusal}
 use Rattle.idl_compiler.specs.declared.refusal.CompileRefusal.TheVariants as compile_refusals
-use Rattle.table_commands.specs.declared.refusal.Refusal.{Refusal}
-use Rattle.table_commands.specs.declared.refusal.Refusal.TheVariants as refusals
+use Rattle.command_tables.specs.declared.refusal.Refusal.{Refusal}
+use Rattle.command_tables.specs.declared.refusal.Refusal.TheVariants as refusals
 use Rattle.call_commands.specs.Causes.{cause_of}
 use Rattle.call_commands.specs.declared.fault.CallRefusal.{CallRefusal}
-use Rattle.giop_client.specs.declared.fault.Cause.{Cause}
-use Rattle.giop_client.specs.declared.fault.Cause.TheVariants as causes
+use Rattle.call_client.specs.declared.fault.Cause.{Cause}
+use Rattle.call_client.specs.declared.fault.Cause.TheVariants as causes
 use Rattle.reference_listing.specs.declared.spelled_references.fault.SpellingFault.{SpellingFault}
 use Rattle.reference_listing.specs.declared.spelled_references.fault.SpellingFault.TheVariants as spellings
-use Rattle.socket_server.specs.declared.fault.ServeFault.{ServeFault}
-use Rattle.socket_server.specs.declared.fault.ServeFault.TheVariants as serve_faults
-use Rattle.named_tables.specs.declared.fault.NamedFault.{NamedFault}
-use Rattle.named_tables.specs.declared.fault.NamedFault.TheVariants as named
+use Rattle.broker_sockets.specs.declared.fault.ServeFault.{ServeFault}
+use Rattle.broker_sockets.specs.declared.fault.ServeFault.TheVariants as serve_faults
+use Rattle.command_files.specs.declared.fault.NamedFault.{NamedFault}
+use Rattle.command_files.specs.declared.fault.NamedFault.TheVariants as named
 use Rattle.idlc_main.specs.declared.fault.Fault.{Fault}
 use Rattle.idlc_main.specs.declared.fault.Fault.TheVariants.{Words, NotText, Refused, Unsaid, NotCompiled, Explained, NotSpelled, NotCapture, BadLine, CutShort, NoOperation, NotCalled, NotServed, Socket, NoRefusal, Unwritten, NoMemory}
 

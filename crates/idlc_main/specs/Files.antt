@@ -5,8 +5,8 @@ use Rattle.command_words.specs.declared.task.Task.{Task}
 use Rattle.command_words.specs.declared.task.Task.TheVariants.{Check, Upgrade, Compile}
 use Rattle.idl_compiler.specs.Files.{IsCompiledFile}
 use Rattle.idl_compiler.specs.declared.file.CompiledFile.{CompiledFile}
-use Rattle.table_commands.specs.Named.{Passing, IsUpgraded}
-use Rattle.named_tables.specs.Answers.{IsCounted}
+use Rattle.command_tables.specs.Named.{Passing, IsUpgraded}
+use Rattle.command_files.specs.Answers.{IsCounted}
 
 -- an IDL file was read, its table was written to another file, and the line tells of it
 pub record IsCompiledTo (Reads Takes : Passing) (source output line : List ℕ) : Type 0 where

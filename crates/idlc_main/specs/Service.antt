@@ -1,10 +1,10 @@
 -- What is served.
 use Rattle.command_words.specs.declared.task.Service.{Service}
-use Rattle.socket_server.specs.Serving.{IsServed as IsServedBy, places_of}
+use Rattle.broker_sockets.specs.Serving.{IsServed as IsServedBy, places_of}
 use Rattle.table_file.specs.Table.{TableParts}
-use Rattle.table_commands.specs.Named.{Passing}
-use Rattle.text_commands.specs.Lines.{Labels}
-use Rattle.named_tables.specs.Loaded.{IsLoaded}
+use Rattle.command_tables.specs.Named.{Passing}
+use Rattle.command_texts.specs.Lines.{Labels}
+use Rattle.command_files.specs.Loaded.{IsLoaded}
 
 -- just so many connections came as the words say, and the object that they name was served to each, by the table
 -- that they name, one after the other or at the same time

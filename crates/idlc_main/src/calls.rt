@@ -10,15 +10,15 @@ use crate::times::Times;
 use crate::told::named_fault;
 use call_commands::{CallRefusal, Ending, TextCall, Types, call_text};
 use command_words::CallTask;
-use dialled_sockets::Dialler;
+use call_sockets::Dialler;
 use giop::Giop;
-use named_tables::{Loaded, NamedFault, load, source_in, text_in};
+use command_files::{Loaded, NamedFault, load, source_in, text_in};
 use giop::reply_bodies::SystemException;
 use reference_listing::spelled_references::read_reference;
 use std::alloc::{AllocError, Global};
 use std::net::Net;
 use std::time::Clock;
-use table_commands::WholeFiles;
+use command_tables::WholeFiles;
 
 /// The text of a call that has no arguments.
 const NO_ARGUMENTS: &str = "[]";

@@ -3,7 +3,7 @@
 ghost use Rattle.std.specs.Prelude.{IfErr, IfOk};
 ghost use Rattle.std.specs.String.{string_bytes};
 ghost use Rattle.command_words.specs.Ask.{Description};
-ghost use Rattle.named_tables.specs.Values.{IsTextFor};
+ghost use Rattle.command_files.specs.Values.{IsTextFor};
 ghost use Rattle.idlc_main.specs.Answer.{IsAnswer};
 ghost use Rattle.idlc_main.specs.Descriptions.{IsDescribed, IsDescriptionFault};
 ghost use Rattle.idlc_main.specs.Fault.{IsTold};
@@ -11,9 +11,9 @@ ghost use Rattle.idlc_main.specs.Fault.{IsTold};
 use crate::fault::Fault;
 use crate::told::Answer;
 use giop_types::GiopTypes;
-use named_tables::{NamedFault, source_in, text_in};
+use command_files::{NamedFault, source_in, text_in};
 use reference_listing::spelled_references::{SpellingFault, described_reference};
-use table_commands::WholeFiles;
+use command_tables::WholeFiles;
 
 /// The lines of the reference that a text spells, which a word stands for, by the routines of messages.
 fn described_by<'a, R: WholeFiles + AllocGlobal>(

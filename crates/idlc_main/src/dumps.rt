@@ -8,12 +8,12 @@ use crate::fault::Fault;
 use crate::listener::Listener;
 use crate::told::named_fault;
 use command_words::DumpTask;
-use message_words::dump_commands::{CaptureFault, CaptureFiles, CaptureNames, dump_capture};
-use message_dumps::DumpFault;
-use named_tables::{Loaded, load};
+use giop_words::dump_commands::{CaptureFault, CaptureFiles, CaptureNames, dump_capture};
+use giop_dumps::DumpFault;
+use command_files::{Loaded, load};
 use std::io::Write;
 use std::time::Clock;
-use table_commands::{Refusal, WholeFiles};
+use command_tables::{Refusal, WholeFiles};
 
 /// The fault of a capture that was told up to there.
 fn cut_short(fault: DumpFault) -> Fault<'static>

@@ -6,15 +6,15 @@ ghost use Rattle.idlc_main.specs.declared.fault.Fault.TheVariants.{NoMemory, Not
 
 use call_commands::CallRefusal;
 use command_words::Mistake;
-use giop_client::Cause;
+use call_client::Cause;
 use idl_compiler::CompileRefusal;
-use message_dumps::DumpFault;
-use named_tables::NamedFault;
-use socket_server::ServeFault;
+use giop_dumps::DumpFault;
+use command_files::NamedFault;
+use broker_sockets::ServeFault;
 use reference_listing::spelled_references::SpellingFault;
 use std::alloc::AllocError;
 use std::fmt;
-use table_commands::Refusal;
+use command_tables::Refusal;
 use thiserror::Error;
 use value_text::Refusal as TextFault;
 

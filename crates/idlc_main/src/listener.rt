@@ -1,6 +1,6 @@
 //! Who hears of faults.
 
-use fault_views::Look;
+use diagnostic_views::Look;
 
 /// Who reads standard error.
 #[derive(Clone, Copy, Debug, PartialEq, Eq)]

@@ -34,9 +34,9 @@ use crate::tasks::{done, table_in};
 use crate::told::Answer;
 use call_commands::ExceptionLine;
 use command_words::{CallTask, DumpTask, Mistake, Said, explains, parse};
-use message_words::dump_commands::CaptureFiles;
-use fault_views::Look;
-use socket_server::Totals;
+use giop_words::dump_commands::CaptureFiles;
+use diagnostic_views::Look;
+use broker_sockets::Totals;
 use std::alloc::{AllocError, Global};
 use std::env::VarError;
 use std::io::IsTerminal;
@@ -45,7 +45,7 @@ use std::process::ExitCode;
 use std::rt::Env;
 use std::time::Clock;
 use std::{env, io};
-use table_commands::WholeFiles;
+use command_tables::WholeFiles;
 
 /// The status of a run that did what was asked for, help included.
 const DONE: u8 = 0;

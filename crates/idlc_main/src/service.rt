@@ -2,7 +2,7 @@
 
 ghost use Rattle.std.specs.Prelude.{◌≡◌, ◌<◌, IfErr, IfOk, OnOk};
 ghost use Rattle.std.specs.Io.KnownBytes.{Appends};
-ghost use Rattle.socket_server.specs.Lines.{serving};
+ghost use Rattle.broker_sockets.specs.Lines.{serving};
 ghost use Rattle.idlc_main.specs.Answer.{MayServe};
 ghost use Rattle.idlc_main.specs.Fault.{status_of};
 ghost use Rattle.idlc_main.specs.Service.{IsServed};
@@ -11,12 +11,12 @@ use crate::fault::Fault;
 use crate::listener::Listener;
 use crate::told::named_fault;
 use command_words::Service;
-use named_tables::load;
-use socket_server::{ServeOptions, Totals, serve};
+use command_files::load;
+use broker_sockets::{ServeOptions, Totals, serve};
 use std::io::Write;
 use std::net::Net;
 use std::time::Clock;
-use table_commands::WholeFiles;
+use command_tables::WholeFiles;
 
 /// Serves calls by a table, which is checked before anything listens, and tells how much was served.
 pub fn served<'a, R: WholeFiles + Net + Clock + Eprint + AllocGlobal, O: Write>(

@@ -7,7 +7,7 @@ ghost use Rattle.command_words.specs.Ask.{Description, Explanation, Reference, V
 ghost use Rattle.command_words.specs.declared.task.ValueTask.{ValueTask};
 ghost use Rattle.command_words.specs.declared.task.ReferenceTask.{ReferenceTask};
 ghost use Rattle.idl_compiler.specs.Files.{IsCompiledFile};
-ghost use Rattle.table_commands.specs.Named.{IsUpgraded};
+ghost use Rattle.command_tables.specs.Named.{IsUpgraded};
 ghost use Rattle.idlc_main.specs.Answer.{IsAnswer, IsLined};
 ghost use Rattle.idlc_main.specs.Fault.{IsTold};
 ghost use Rattle.idlc_main.specs.Files.{IsCompiledTo, IsDone};
@@ -17,10 +17,10 @@ use crate::fault::Fault;
 use crate::listener::Listener;
 use crate::told::{Answer, Notice, named_fault, source_fault};
 use command_words::Task;
-use fault_texts::{explanations, headings};
+use diagnostic_texts::{explanations, headings};
 use idl_compiler::{CompiledFile, compile_file};
-use named_tables::{NamedFault, accepted_of, listing_of, reference_of, value_line};
-use table_commands::{WholeFiles, read_file, upgrade, write_file};
+use command_files::{NamedFault, accepted_of, listing_of, reference_of, value_line};
+use command_tables::{WholeFiles, read_file, upgrade, write_file};
 
 /// The answer that is a line of the table of a name.
 fn lined<'a, R: WholeFiles + AllocGlobal>(

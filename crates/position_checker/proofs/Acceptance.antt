@@ -15,8 +15,8 @@ use Rattle.marshal_program.specs.Served.{is_serving, served_by}
 use Rattle.routine_checker.specs.Sets.{Among}
 use Rattle.routine_checker.specs.Right.{AreRight}
 use Rattle.routine_checker.proofs.SetLaws.{among_all}
-use Rattle.run_steps.specs.declared.fault.RunFault.{RunFault}
-use Rattle.run_steps.specs.declared.fault.RunFault.TheVariants.{Short, BadBool, BadEnum, BadLength, NoTerminator, ZeroInside, OverBound, TooDeep, TapeLeft, NoMemory}
+use Rattle.program_steps.specs.declared.fault.RunFault.{RunFault}
+use Rattle.program_steps.specs.declared.fault.RunFault.TheVariants.{Short, BadBool, BadEnum, BadLength, NoTerminator, ZeroInside, OverBound, TooDeep, TapeLeft, NoMemory}
 use Rattle.program_runner.specs.Refusal.{wants_memory}
 use Rattle.program_runner.specs.Buffers.{IsPut}
 use Rattle.table_file.specs.declared.table.Which.{Which}

@@ -5,11 +5,11 @@ ghost use Rattle.type_graph.specs.declared.width.Width.TheVariants.{One, Two, Ei
 ghost use Rattle.type_graph.specs.Words.{words_of, plain_word};
 ghost use Rattle.type_graph.specs.Value.{number_width};
 ghost use Rattle.marshal_program.specs.Does.{node_of};
-ghost use Rattle.run_steps.specs.Steps.{Gives, number_at, disc_number};
+ghost use Rattle.program_steps.specs.Steps.{Gives, number_at, disc_number};
 
 use marshal_program::Disc;
-use run_steps::RunFault;
-use run_steps::text::number_at_front;
+use program_steps::RunFault;
+use program_steps::text::number_at_front;
 use type_graph::{Order, Width};
 
 /// The size of a discriminator.

@@ -1,15 +1,15 @@
 -- What faults of other calls say.
 use Rattle.std.proofs.Common.{◌≡◌, ℕ, List, subst}
 use Rattle.std.specs.Bool.{OnFalse}
-use Rattle.object_references.specs.Places.{Place}
-use Rattle.object_references.specs.CorbalocRefusal.{wants_memory as url_wants_memory}
-use Rattle.object_references.specs.declared.corbaloc.fault.CorbalocFault.{CorbalocFault}
-use Rattle.object_references.specs.declared.corbaloc.fault.CorbalocFault.TheVariants as urls
-use Rattle.object_references.specs.References.{Reference}
-use Rattle.object_references.specs.Profiles.{IsProfile}
-use Rattle.object_references.specs.Refusal.{wants_memory}
-use Rattle.object_references.specs.declared.fault.ReferenceFault.{ReferenceFault}
-use Rattle.object_references.specs.declared.fault.ReferenceFault.TheVariants as references
+use Rattle.reference_texts.specs.Places.{Place}
+use Rattle.reference_texts.specs.CorbalocRefusal.{wants_memory as url_wants_memory}
+use Rattle.reference_texts.specs.declared.corbaloc.fault.CorbalocFault.{CorbalocFault}
+use Rattle.reference_texts.specs.declared.corbaloc.fault.CorbalocFault.TheVariants as urls
+use Rattle.reference_texts.specs.References.{Reference}
+use Rattle.reference_texts.specs.Profiles.{IsProfile}
+use Rattle.reference_texts.specs.Refusal.{wants_memory}
+use Rattle.reference_texts.specs.declared.fault.ReferenceFault.{ReferenceFault}
+use Rattle.reference_texts.specs.declared.fault.ReferenceFault.TheVariants as references
 use Rattle.reference_listing.specs.Spelled.{IsOfPlace}
 
 pub bad_url : (fault : CorbalocFault) (P : Type 0) → fault ≡ urls.BadCorbaloc → OnFalse (url_wants_memory fault) P → P

@@ -12,9 +12,9 @@ use Rattle.type_graph.proofs.OneReading.{one_reading}
 use Rattle.giop_types.specs.GiopNodes.{giop_nodes}
 use Rattle.giop_types.specs.Fields.{Holds}
 use Rattle.giop_types.proofs.GraphFacts.{giop_is_graph}
-use Rattle.object_references.specs.Profiles.{Body, body_node, body_tree}
-use Rattle.object_references.specs.Encapsulations.{flag_of}
-use Rattle.object_references.proofs.Encapsulated.{orders_same}
+use Rattle.reference_texts.specs.Profiles.{Body, body_node, body_tree}
+use Rattle.reference_texts.specs.Encapsulations.{flag_of}
+use Rattle.reference_texts.proofs.Encapsulated.{orders_same}
 use Rattle.reference_listing.specs.Listings.{Iiop, IsIiop}
 use Rattle.reference_listing.specs.inner.Bodies.{AreBehind, IsBodyTape, IsFront, IsSomeFront, is_later, minor_of}
 use Rattle.reference_listing.proofs.Shapes.{body_value}

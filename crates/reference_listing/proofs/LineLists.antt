@@ -3,8 +3,8 @@ use Rattle.std.proofs.Common.{◌≡◌, ℕ, suc, ◌+◌, ◌<◌, List, [], �
 use Rattle.std.specs.declared.vec.Vec.{Vec}
 use Rattle.std.specs.declared.alloc.Global.{Global}
 use Rattle.std.proofs.lemmas.List.{length-map, length-take-le}
-use Rattle.object_references.specs.References.{owned_pairs}
-use Rattle.object_references.proofs.ListLaws.{owned_next}
+use Rattle.reference_texts.specs.References.{owned_pairs}
+use Rattle.reference_texts.proofs.ListLaws.{owned_next}
 use Rattle.reference_listing.specs.Pieces.{AreLines}
 
 -- one more behind them

@@ -8,9 +8,9 @@ use Rattle.type_graph.proofs.OneReading.{one_reading}
 use Rattle.giop_types.specs.GiopNodes.{giop_nodes}
 use Rattle.giop_types.specs.Fields.{Holds}
 use Rattle.giop_types.proofs.GraphFacts.{giop_is_graph}
-use Rattle.object_references.specs.Encapsulations.{Encapsulates, EncapsulatesSo, IsSo, Manner, flag_of}
-use Rattle.object_references.specs.Profiles.{body_node, body_tree}
-use Rattle.object_references.proofs.Encapsulated.{encapsulated_once, orders_same}
+use Rattle.reference_texts.specs.Encapsulations.{Encapsulates, EncapsulatesSo, IsSo, Manner, flag_of}
+use Rattle.reference_texts.specs.Profiles.{body_node, body_tree}
+use Rattle.reference_texts.proofs.Encapsulated.{encapsulated_once, orders_same}
 use Rattle.reference_listing.specs.Listings.{Iiop, IsIiop}
 
 -- what is written in a manner is read

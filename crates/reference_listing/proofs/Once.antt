@@ -1,7 +1,7 @@
 -- A URL spells one place.
 use Rattle.std.proofs.Common.{◌≡◌, ℕ, List, sym, subst, ◌∙◌, ap, Some, true}
-use Rattle.object_references.specs.Places.{Place, SpellsCorbaloc, address_of, cut, key_of}
-use Rattle.object_references.specs.References.{Reference}
+use Rattle.reference_texts.specs.Places.{Place, SpellsCorbaloc, address_of, cut, key_of}
+use Rattle.reference_texts.specs.References.{Reference}
 use Rattle.reference_listing.specs.Spelled.{IsOfPlace, SpellsBy, SpellsReference, is_url}
 
 some_is : {A : Type 0} (a b : A) → Some a ≡ Some b → a ≡ b

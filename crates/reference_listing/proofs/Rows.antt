@@ -3,7 +3,7 @@ use Rattle.std.proofs.Common.{◌≡◌, ℕ, ◌+◌, ◌<◌, List, [], ◌∷
 use Rattle.std.specs.declared.vec.Vec.{Vec}
 use Rattle.std.specs.declared.alloc.Global.{Global}
 use Rattle.std.proofs.lemmas.List.{map-append, take_more}
-use Rattle.object_references.specs.References.{owned_pairs}
+use Rattle.reference_texts.specs.References.{owned_pairs}
 use Rattle.reference_listing.specs.declared.listing.ListedProfile.{ListedProfile}
 use Rattle.reference_listing.specs.Listings.{AreRows, IsRow, Row, row_of, rows_of}
 

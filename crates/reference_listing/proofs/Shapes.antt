@@ -8,8 +8,8 @@ use Rattle.giop_types.specs.GiopNodes.{giop_nodes}
 use Rattle.giop_types.specs.Fields.{octets_tree, tagged_list_tree}
 use Rattle.giop_types.proofs.PartTrees.{octet_shape, short_shape, struct_shape, text_shape, text_counted}
 use Rattle.giop_types.specs.TapeParts.{counted, tagged_list}
-use Rattle.object_references.specs.Profiles.{Body, body_node, body_tree}
-use Rattle.object_references.proofs.Shapes.{peel, none_left, counted_value, tag_list}
+use Rattle.reference_texts.specs.Profiles.{Body, body_node, body_tree}
+use Rattle.reference_texts.proofs.Shapes.{peel, none_left, counted_value, tag_list}
 use Rattle.reference_listing.specs.inner.Bodies.{IsBodyTape, minor_of}
 
 -- what fits as a body

@@ -7,7 +7,7 @@ use Rattle.type_graph.proofs.WordLaws.{plain_word_same}
 use Rattle.type_graph.proofs.OneTape.{cut_same}
 use Rattle.giop_types.specs.TapeParts.{counted, IsCounted, tagged_list, AreTagged}
 use Rattle.giop_types.proofs.PartLaws.{counted_front, tagged_list_front}
-use Rattle.object_references.specs.Profiles.{Body}
+use Rattle.reference_texts.specs.Profiles.{Body}
 use Rattle.reference_listing.specs.inner.Bodies.{AreBehind, IsAddress, IsBodyTape}
 
 -- ---- numbers

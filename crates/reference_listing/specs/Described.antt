@@ -1,7 +1,7 @@
 -- What is printed of the reference that a text spells.
 use Rattle.std.specs.Prelude.{◌≡◌, ℕ, Bool, true, false, List, [], ◌++◌, codes}
-use Rattle.object_references.specs.References.{Reference}
-use Rattle.object_references.specs.Texts.{IsTextOf, SpellsOctets}
+use Rattle.reference_texts.specs.References.{Reference}
+use Rattle.reference_texts.specs.Texts.{IsTextOf, SpellsOctets}
 use Rattle.reference_listing.specs.Lines.{IsTold}
 use Rattle.reference_listing.specs.Spelled.{SpellsReference, is_url}
 

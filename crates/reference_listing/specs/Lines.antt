@@ -1,9 +1,9 @@
 -- The lines that say what a reference says, octet by octet (own).
 use Rattle.std.specs.Prelude.{◌≡◌, ℕ, List, [], ◌++◌, codes}
 use Rattle.std.specs.Fmt.{decimal}
-use Rattle.object_references.specs.Encapsulations.{EncapsulatesSo, Manner}
-use Rattle.object_references.specs.Profiles.{body_node, body_tree}
-use Rattle.object_references.specs.References.{Reference, reference_tree}
+use Rattle.reference_texts.specs.Encapsulations.{EncapsulatesSo, Manner}
+use Rattle.reference_texts.specs.Profiles.{body_node, body_tree}
+use Rattle.reference_texts.specs.References.{Reference, reference_tree}
 use Rattle.reference_listing.specs.Listings.{Iiop, IsRow, OfIiop, OfOther, Row}
 use Rattle.reference_listing.specs.Shown.{digits, order_word, shown}
 use Rattle.reference_listing.specs.Pieces.{AreLines, IsComponent, IsTag, behind_line, gap_lines}

@@ -3,9 +3,9 @@ use Rattle.std.specs.Prelude.{◌≡◌, ℕ, List, [], ◌∷◌, ◌++◌}
 use Rattle.type_graph.specs.declared.width.Order.{Order}
 use Rattle.type_graph.specs.Words.{reading}
 use Rattle.giop_types.specs.Fields.{Holds}
-use Rattle.object_references.specs.Encapsulations.{flag_of}
-use Rattle.object_references.specs.Profiles.{Body, body_node, body_tree}
-use Rattle.object_references.specs.References.{Reference, owned_pairs}
+use Rattle.reference_texts.specs.Encapsulations.{flag_of}
+use Rattle.reference_texts.specs.Profiles.{Body, body_node, body_tree}
+use Rattle.reference_texts.specs.References.{Reference, owned_pairs}
 use Rattle.reference_listing.specs.declared.listing.IiopBody.{IiopBody}
 use Rattle.reference_listing.specs.declared.listing.IiopProfile.{IiopProfile}
 use Rattle.reference_listing.specs.declared.listing.ListedProfile.{ListedProfile}

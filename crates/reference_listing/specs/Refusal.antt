@@ -1,6 +1,6 @@
 -- What a fault says.
 use Rattle.std.specs.Prelude.{◌≡◌, ℕ, true, false, List}
-use Rattle.object_references.specs.References.{Reference}
+use Rattle.reference_texts.specs.References.{Reference}
 use Rattle.reference_listing.specs.Spelled.{SpellsReference, is_url}
 use Rattle.reference_listing.specs.declared.spelled_references.fault.SpellingFault.{SpellingFault}
 use Rattle.reference_listing.specs.declared.spelled_references.fault.SpellingFault.TheVariants.{BadIor, BadCorbaloc, NoMemory}

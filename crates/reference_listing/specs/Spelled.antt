@@ -1,10 +1,10 @@
 -- Which reference a text spells: `IOR:` and digits, or a corbaloc URL.
 use Rattle.std.specs.Prelude.{◌≡◌, ℕ, Bool, true, false, nat_eq, List, [], ◌∷◌, codes}
 use Rattle.std.specs.List.{starts_with}
-use Rattle.object_references.specs.References.{Reference}
-use Rattle.object_references.specs.Profiles.{IsProfile}
-use Rattle.object_references.specs.Texts.{Spells}
-use Rattle.object_references.specs.Places.{Place, SpellsCorbaloc}
+use Rattle.reference_texts.specs.References.{Reference}
+use Rattle.reference_texts.specs.Profiles.{IsProfile}
+use Rattle.reference_texts.specs.Texts.{Spells}
+use Rattle.reference_texts.specs.Places.{Place, SpellsCorbaloc}
 
 -- the reference to the object of a place: without an id, with one profile, of IIOP 1.2
 pub record IsOfPlace (place : Place) (reference : Reference) : Type 0 where

@@ -2,14 +2,14 @@
 
 ghost use Rattle.std.specs.Prelude.{◌≡◌, ◌≤◌, ℕ, List, drop, length, IfOk, IfSome, IfNone, IsTrue};
 ghost use Rattle.giop_types.specs.Named.{has_name};
-ghost use Rattle.object_references.specs.Profiles.{Body, body_node};
+ghost use Rattle.reference_texts.specs.Profiles.{Body, body_node};
 ghost use Rattle.reference_listing.specs.Listings.{Iiop, IsIiop, body_of, iiop_of};
 ghost use Rattle.reference_listing.specs.inner.Bodies.{IsFront, IsSomeFront, is_later as is_later_than_0, minor_of};
 
 use crate::listing::{IiopBody, IiopProfile};
 use crate::tape::body_of_tape;
 use giop_types::{GiopTypes, PROFILE_BODY_1_0, PROFILE_BODY_1_1, TapeFault};
-use object_references::split_flag;
+use reference_texts::split_flag;
 use std::alloc::{AllocError, Global};
 use type_graph::Order as ByteOrder;
 

@@ -1,13 +1,13 @@
 //! References listed.
 
 ghost use Rattle.std.specs.Prelude.{IfOk};
-ghost use Rattle.object_references.specs.References.{owned_pairs, reference_of};
+ghost use Rattle.reference_texts.specs.References.{owned_pairs, reference_of};
 ghost use Rattle.reference_listing.specs.Listings.{AreRows, IsListing, IsRow, row_of, rows_of};
 
 use crate::body::iiop_profile;
 use crate::listing::{ListedProfile, Listing};
 use giop_types::GiopTypes;
-use object_references::Ior;
+use reference_texts::Ior;
 use std::alloc::{AllocError, Global};
 
 /// What a profile with this tag and these octets says.

@@ -5,14 +5,14 @@ ghost use Rattle.type_graph.specs.declared.width.Order.TheVariants.{Big};
 ghost use Rattle.type_graph.specs.declared.width.Width.TheVariants.{One};
 ghost use Rattle.type_graph.specs.Words.{word};
 ghost use Rattle.giop_types.specs.TapeRefusal.{RefusesReading};
-ghost use Rattle.object_references.specs.Profiles.{Body};
-ghost use Rattle.object_references.specs.References.{owned_pairs};
+ghost use Rattle.reference_texts.specs.Profiles.{Body};
+ghost use Rattle.reference_texts.specs.References.{owned_pairs};
 ghost use Rattle.reference_listing.specs.Listings.{body_of};
 ghost use Rattle.reference_listing.specs.inner.Bodies.{AreBehind, IsAddress, IsBodyTape};
 
 use crate::listing::IiopBody;
 use giop_types::{TapeFault, split_octets, split_tagged_list, split_u8, split_u16};
-use object_references::owned;
+use reference_texts::owned;
 use std::alloc::Global;
 
 /// The address of an object: the host and port of its server, and its key there.

@@ -6,7 +6,7 @@ use Rattle.std.specs.Prelude.{nat_lt, if◌then◌else◌}
 use Rattle.type_graph.specs.Words.{AllBelow}
 use Rattle.type_graph.specs.Value.{Tree, Items, Trees, NoTree, AndTree, count}
 use Rattle.giop_types.specs.Fields.{number_tree, octet_trees, tagged_tree, tagged_trees}
-use Rattle.object_references.specs.References.{owned_pairs}
+use Rattle.reference_texts.specs.References.{owned_pairs}
 use Rattle.idl_value.specs.declared.value.Value.{Value}
 use Rattle.idl_value.specs.View.{tree_of, trees_of}
 use Rattle.value_text.specs.Octets.{octet_of, octet_of_tree, octets_of}

@@ -7,9 +7,9 @@ use Rattle.type_graph.specs.Encoding.{Encodes, Just, Joined}
 use Rattle.giop_types.specs.GiopNodes.{giop_nodes}
 use Rattle.giop_types.specs.Fields.{tagged_list_tree}
 use Rattle.giop_types.proofs.PartTrees.{OfText, OfList, text_shape, tagged_list_shape}
-use Rattle.object_references.specs.References.{Reference, reference_tree}
-use Rattle.object_references.specs.Texts.{IsTextOf, Spells}
-use Rattle.object_references.proofs.TextLaws.{spelled_once, text_read}
+use Rattle.reference_texts.specs.References.{Reference, reference_tree}
+use Rattle.reference_texts.specs.Texts.{IsTextOf, Spells}
+use Rattle.reference_texts.proofs.TextLaws.{spelled_once, text_read}
 use Rattle.value_text.specs.Printed.{with_text, with_profiles, encapsulation, reference_text}
 use Rattle.value_text.specs.Stringified.{Stringifies, FitsObject}
 use Rattle.value_text.specs.inner.Room.{HasRoom}

@@ -6,7 +6,7 @@ use Rattle.type_graph.specs.declared.width.Width.TheVariants.{Four}
 use Rattle.type_graph.specs.declared.width.Order.TheVariants.{Big}
 use Rattle.type_graph.specs.Words.{pad, word}
 use Rattle.type_graph.specs.Value.{Tree, Number, Bytes, Items, Trees, NoTree, AndTree, count}
-use Rattle.object_references.specs.Texts.{spelled}
+use Rattle.reference_texts.specs.Texts.{spelled}
 use Rattle.value_text.specs.Octets.{octets_of}
 
 -- the unsigned long that a number is; what is none counts as 0

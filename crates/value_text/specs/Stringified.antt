@@ -2,8 +2,8 @@
 use Rattle.std.specs.Prelude.{◌≡◌, ℕ, List}
 use Rattle.type_graph.specs.Value.{Tree, node_at, Fits}
 use Rattle.giop_types.specs.GiopNodes.{giop_nodes}
-use Rattle.object_references.specs.References.{Reference, reference_tree}
-use Rattle.object_references.specs.Texts.{Spells}
+use Rattle.reference_texts.specs.References.{Reference, reference_tree}
+use Rattle.reference_texts.specs.Texts.{Spells}
 
 -- the text spells the reference that the value is
 pub record Stringifies (text : List ℕ) (value : Tree) : Type 0 where

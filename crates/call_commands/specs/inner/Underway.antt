@@ -1,10 +1,10 @@
 -- Calls that were forwarded so far.
 use Rattle.std.specs.Prelude.{◌≡◌, ℕ, List, ◌++◌, length}
 use Rattle.iiop_broker.specs.Outcomes.{Ends}
-use Rattle.object_references.specs.References.{Reference}
-use Rattle.text_commands.specs.Outcomes.{Called}
-use Rattle.giop_client.specs.Lines.{Line}
-use Rattle.giop_client.specs.Talks.{Asking, Telling}
+use Rattle.reference_texts.specs.References.{Reference}
+use Rattle.command_texts.specs.Outcomes.{Called}
+use Rattle.call_client.specs.Lines.{Line}
+use Rattle.call_client.specs.Talks.{Asking, Telling}
 use Rattle.call_commands.specs.Followed.{At, AreForwarded, start}
 
 -- so many times, the last time to this reference

@@ -3,18 +3,18 @@
 ghost use Rattle.std.specs.Option.{ForSome};
 ghost use Rattle.type_model.specs.Names.{IsNamed};
 ghost use Rattle.giop.specs.Made.{given_by};
-ghost use Rattle.object_references.specs.References.{reference_of};
-ghost use Rattle.giop_client.specs.Talks.{asking};
+ghost use Rattle.reference_texts.specs.References.{reference_of};
+ghost use Rattle.call_client.specs.Talks.{asking};
 ghost use Rattle.call_commands.specs.Followed.{IsFollowed};
 ghost use Rattle.call_commands.specs.Wanted.{called_of};
 
 use crate::followed_calls::heeded::call_heeding;
 use crate::followed_calls::wanted::Wanted;
-use text_commands::call_texts::Outcome;
+use command_texts::call_texts::Outcome;
 use giop::{Body, Giop};
-use giop_client::{CallFault, Request};
-use giop_client::object_calls::Dial;
-use object_references::Ior;
+use call_client::{CallFault, Request};
+use call_client::object_calls::Dial;
+use reference_texts::Ior;
 use std::alloc::Global;
 
 /// Calls the object that a reference names; where the reply says that it is elsewhere, there, at most

@@ -4,18 +4,18 @@ ghost use Rattle.std.specs.Prelude.{◌≡◌};
 ghost use Rattle.std.specs.Option.{ForSome};
 ghost use Rattle.type_model.specs.Names.{IsNamed};
 ghost use Rattle.giop.specs.Made.{given_by};
-ghost use Rattle.object_references.specs.References.{reference_of};
-ghost use Rattle.giop_client.specs.Talks.{asking};
+ghost use Rattle.reference_texts.specs.References.{reference_of};
+ghost use Rattle.call_client.specs.Talks.{asking};
 ghost use Rattle.call_commands.specs.Heeded.{IsCalledHeeding, asked_in, form_of as form_of_number};
 ghost use Rattle.call_commands.specs.Wanted.{called_of};
 
 use crate::followed_calls::once::call_twice;
 use crate::followed_calls::wanted::Wanted;
-use text_commands::call_texts::Outcome;
+use command_texts::call_texts::Outcome;
 use giop::{Body, Giop};
-use giop_client::{CallFault, Request};
-use giop_client::object_calls::{Dial, Form};
-use object_references::Ior;
+use call_client::{CallFault, Request};
+use call_client::object_calls::{Dial, Form};
+use reference_texts::Ior;
 use std::alloc::Global;
 
 /// The form of address with a number.

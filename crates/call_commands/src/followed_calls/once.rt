@@ -4,19 +4,19 @@ ghost use Rattle.std.specs.Prelude.{◌≡◌};
 ghost use Rattle.std.specs.Option.{ForSome};
 ghost use Rattle.type_model.specs.Names.{IsNamed};
 ghost use Rattle.giop.specs.Made.{given_by};
-ghost use Rattle.giop_client.specs.Answers.{answer_of};
-ghost use Rattle.object_references.specs.References.{reference_of};
-ghost use Rattle.giop_client.specs.Talks.{asking};
+ghost use Rattle.call_client.specs.Answers.{answer_of};
+ghost use Rattle.reference_texts.specs.References.{reference_of};
+ghost use Rattle.call_client.specs.Talks.{asking};
 ghost use Rattle.call_commands.specs.Hops.{IsCalledOnce, IsOutcomeIn, in_form};
 ghost use Rattle.call_commands.specs.Tries.{IsCalledTwice, closes};
 ghost use Rattle.call_commands.specs.Wanted.{called_of};
 
 use crate::followed_calls::wanted::Wanted;
-use text_commands::call_texts::{Outcome, read_outcome};
+use command_texts::call_texts::{Outcome, read_outcome};
 use giop::{Body, Giop, Reply};
-use giop_client::{Answer, CallFault, Request};
-use giop_client::object_calls::{Dial, Form, call_by};
-use object_references::Ior;
+use call_client::{Answer, CallFault, Request};
+use call_client::object_calls::{Dial, Form, call_by};
+use reference_texts::Ior;
 use reference_listing::list_reference;
 use std::alloc::Global;
 

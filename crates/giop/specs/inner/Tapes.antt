@@ -6,7 +6,7 @@ use Rattle.type_graph.specs.declared.width.Order.TheVariants.{Big}
 use Rattle.type_graph.specs.Words.{word}
 use Rattle.type_graph.specs.Value.{Tree, node_at, Fits, tape_of}
 use Rattle.giop_types.specs.GiopNodes.{giop_nodes, target_address_node}
-use Rattle.object_references.specs.Profiles.{HasKey}
+use Rattle.reference_texts.specs.Profiles.{HasKey}
 use Rattle.giop_messages.specs.Messages.{HasHeader}
 use Rattle.giop_types.specs.TapeParts.{counted, IsCounted, tagged, IsTagged, tagged_list, AreTagged}
 

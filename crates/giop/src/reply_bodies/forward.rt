@@ -1,12 +1,12 @@
 //! Where an object is.
 
 ghost use Rattle.std.specs.Prelude.{IfOk, IfSome, IfNone};
-ghost use Rattle.object_references.specs.References.{Reference, reference_of};
+ghost use Rattle.reference_texts.specs.References.{Reference, reference_of};
 ghost use Rattle.giop.specs.Bodies.{HoldsReference};
 
 use crate::reply_bodies::tape::tape_at;
 use giop_types::{GiopTypes, OBJECT, TapeFault};
-use object_references::{Ior, reference_in};
+use reference_texts::{Ior, reference_in};
 use std::alloc::{AllocError, Global};
 use type_graph::Order;
 

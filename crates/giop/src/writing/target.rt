@@ -3,7 +3,7 @@
 ghost use Rattle.std.specs.Prelude.{IfErr, OnOk, IsTrue, ◌↔◌};
 ghost use Rattle.type_graph.specs.Value.{IsText};
 ghost use Rattle.giop_types.specs.TapeRefusal.{RefusesWriting};
-ghost use Rattle.object_references.specs.References.{owned_pairs};
+ghost use Rattle.reference_texts.specs.References.{owned_pairs};
 ghost use Rattle.giop_messages.specs.declared.fault.GiopFault.TheVariants.{BadHead};
 ghost use Rattle.giop_messages.specs.Faults.{IsMemoryOr};
 ghost use Rattle.giop_messages.specs.Headers.{key_target, profile_target, reference_target};
@@ -12,7 +12,7 @@ ghost use Rattle.giop.specs.inner.Pushed.{FitsAsTarget, PushesTarget};
 
 use giop_messages::GiopFault;
 use giop_types::{Tagged, TapeFault, push_octets, push_tagged, push_u16, push_u32};
-use object_references::{Ior, push_reference};
+use reference_texts::{Ior, push_reference};
 
 /// How the object of a request is named to its server (ISO/IEC 19500-2, GIOP message formats:
 /// TargetAddress).

@@ -6,7 +6,7 @@ use Rattle.type_graph.specs.declared.width.Width.TheVariants.{One, Two}
 use Rattle.type_graph.specs.Words.{reading, word}
 use Rattle.giop_types.specs.Fields.{Holds}
 use Rattle.giop_types.specs.TapeParts.{counted, IsCounted, tagged_list, AreTagged}
-use Rattle.object_references.specs.Profiles.{Body, body_node, body_tree}
+use Rattle.reference_texts.specs.Profiles.{Body, body_node, body_tree}
 
 -- a body of minor version 0 has no components, a later one has
 abbrev pub is_later : ℕ → Bool

@@ -1,7 +1,7 @@
 -- The gaps of profiles.
 use Rattle.std.specs.Prelude.{ℕ, List}
-use Rattle.object_references.specs.Encapsulations.{EncapsulatesSo}
-use Rattle.object_references.specs.Profiles.{body_node, body_tree}
+use Rattle.reference_texts.specs.Encapsulations.{EncapsulatesSo}
+use Rattle.reference_texts.specs.Profiles.{body_node, body_tree}
 use Rattle.reference_listing.specs.Listings.{Iiop}
 
 -- the octets are those of the profile with these octets in its gaps

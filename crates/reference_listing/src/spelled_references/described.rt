@@ -2,8 +2,8 @@
 
 ghost use Rattle.std.specs.Prelude.{IfOk, IfErr};
 ghost use Rattle.std.specs.String.{string_bytes};
-ghost use Rattle.object_references.specs.References.{reference_of};
-ghost use Rattle.object_references.specs.Texts.{Spells, SpellsOctets};
+ghost use Rattle.reference_texts.specs.References.{reference_of};
+ghost use Rattle.reference_texts.specs.Texts.{Spells, SpellsOctets};
 ghost use Rattle.reference_listing.specs.Described.{IsDescription, IsToldOf, IsToldOfUrl};
 ghost use Rattle.reference_listing.specs.Refusal.{RefusesSpelling};
 
@@ -11,7 +11,7 @@ use crate::spelled_references::fault::SpellingFault;
 use crate::spelled_references::lines::reference_text;
 use crate::spelled_references::spelled::{is_url, read_reference};
 use giop_types::{GiopTypes, OBJECT};
-use object_references::{Ior, ReferenceFault, encapsulation_in, ior_to_text, manner_of};
+use reference_texts::{Ior, ReferenceFault, encapsulation_in, ior_to_text, manner_of};
 use std::alloc::{AllocError, Global};
 
 /// The octets that a text in digits spells.

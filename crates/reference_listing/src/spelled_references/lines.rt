@@ -3,10 +3,10 @@
 ghost use Rattle.std.specs.Prelude.{◌≡◌, ℕ, List, IfOk, IsTrue};
 ghost use Rattle.std.specs.String.{string_bytes};
 ghost use Rattle.giop_types.specs.Named.{has_name};
-ghost use Rattle.object_references.specs.Encapsulations.{EncapsulatesSo};
-ghost use Rattle.object_references.specs.Manners.{manner_of as the_manner};
-ghost use Rattle.object_references.specs.Profiles.{body_node};
-ghost use Rattle.object_references.specs.References.{owned_pairs, reference_of, reference_tree};
+ghost use Rattle.reference_texts.specs.Encapsulations.{EncapsulatesSo};
+ghost use Rattle.reference_texts.specs.Manners.{manner_of as the_manner};
+ghost use Rattle.reference_texts.specs.Profiles.{body_node};
+ghost use Rattle.reference_texts.specs.References.{owned_pairs, reference_of, reference_tree};
 ghost use Rattle.reference_listing.specs.Listings.{IsIiop, iiop_of};
 ghost use Rattle.reference_listing.specs.Pieces.{AreLines, IsComponent};
 ghost use Rattle.reference_listing.specs.Lines.{IsIiopText, IsOtherText, IsProfileText, IsTold, address_lines};
@@ -16,7 +16,7 @@ use crate::spelled_references::names::profile_name;
 use crate::spelled_references::pieces::{all_gaps, behind_text, component_line, tag_text};
 use crate::spelled_references::shown::{digits_text, order_name, shown_text};
 use giop_types::{GiopTypes, PROFILE_BODY_1_0, PROFILE_BODY_1_1};
-use object_references::{Ior, Manner, ReferenceFault, manner_of};
+use reference_texts::{Ior, Manner, ReferenceFault, manner_of};
 use crate::{IiopProfile, ListedProfile, list_profile};
 use std::alloc::{AllocError, Global};
 

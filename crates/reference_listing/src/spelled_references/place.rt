@@ -2,14 +2,14 @@
 
 ghost use Rattle.std.specs.Prelude.{◌≡◌, ◌∷◌, [], IfOk, IfErr};
 ghost use Rattle.std.specs.Bool.{OnFalse};
-ghost use Rattle.object_references.specs.References.{Reference, reference_of};
-ghost use Rattle.object_references.specs.Refusal.{wants_memory};
-ghost use Rattle.object_references.specs.Views.{place_of};
+ghost use Rattle.reference_texts.specs.References.{Reference, reference_of};
+ghost use Rattle.reference_texts.specs.Refusal.{wants_memory};
+ghost use Rattle.reference_texts.specs.Views.{place_of};
 ghost use Rattle.reference_listing.specs.Spelled.{IsOfPlace};
 
-use object_references::corbaloc::Location;
+use reference_texts::corbaloc::Location;
 use giop_types::GiopTypes;
-use object_references::{Ior, ReferenceFault, profile};
+use reference_texts::{Ior, ReferenceFault, profile};
 use std::alloc::{AllocError, Global};
 
 /// A reference without an id that has one profile of IIOP.

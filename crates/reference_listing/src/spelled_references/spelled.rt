@@ -1,15 +1,15 @@
 //! References by their texts.
 
 ghost use Rattle.std.specs.Prelude.{◌≡◌, IfOk, IfErr, true, false};
-ghost use Rattle.object_references.specs.References.{reference_of};
+ghost use Rattle.reference_texts.specs.References.{reference_of};
 ghost use Rattle.reference_listing.specs.Spelled.{SpellsReference, is_url as is_url_text};
 ghost use Rattle.reference_listing.specs.Refusal.{RefusesSpelling};
 
 use crate::spelled_references::fault::SpellingFault;
 use crate::spelled_references::place::reference_at;
-use object_references::corbaloc::{CorbalocFault, read_corbaloc};
+use reference_texts::corbaloc::{CorbalocFault, read_corbaloc};
 use giop_types::GiopTypes;
-use object_references::{Ior, ReferenceFault, ior_from_text};
+use reference_texts::{Ior, ReferenceFault, ior_from_text};
 use std::alloc::Global;
 
 pub(crate) fn is_url(text: &str) -> bool

@@ -3,8 +3,8 @@
 ghost use Rattle.std.specs.Prelude.{◌≡◌, ◌↔◌, true, ℕ, List};
 ghost use Rattle.type_graph.specs.declared.node.Node.{Node};
 ghost use Rattle.type_graph.specs.Value.{Tree, Items, Trees, FitAll};
-ghost use Rattle.object_references.specs.References.{Reference, reference_tree};
-ghost use Rattle.object_references.specs.Texts.{IsTextOf};
+ghost use Rattle.reference_texts.specs.References.{Reference, reference_tree};
+ghost use Rattle.reference_texts.specs.Texts.{IsTextOf};
 ghost use Rattle.value_text.specs.Shape.{is_reference};
 ghost use Rattle.value_text.specs.Printed.{reference_text};
 ghost use Rattle.value_text.specs.Stringified.{Stringifies, FitsObject};

@@ -3,7 +3,7 @@
 ghost use Rattle.std.specs.Prelude.{◌≡◌, pos, OnOk, IfOk};
 ghost use Rattle.std.specs.String.{string_bytes};
 ghost use Rattle.type_graph.specs.Value.{Items, Bytes};
-ghost use Rattle.object_references.specs.Texts.{spelled as the_spelled};
+ghost use Rattle.reference_texts.specs.Texts.{spelled as the_spelled};
 ghost use Rattle.idl_value.specs.View.{tree_of, trees_of};
 ghost use Rattle.value_text.specs.Printed.{long_of, long_of_tree, with_long, with_text, with_octets, with_profile, with_each, with_profiles, with_members, encapsulation as the_encapsulation, reference_text as the_text};
 

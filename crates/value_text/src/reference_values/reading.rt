@@ -4,14 +4,14 @@ ghost use Rattle.std.specs.Prelude.{◌≡◌, IfOk, IfSome, IfNone, IsTrue, ◌
 ghost use Rattle.type_graph.specs.Value.{Tree};
 ghost use Rattle.giop_types.specs.Fields.{tagged_tree, tagged_trees};
 ghost use Rattle.idl_value.specs.View.{tree_of, trees_of};
-ghost use Rattle.object_references.specs.References.{owned_pairs, reference_of, reference_tree};
+ghost use Rattle.reference_texts.specs.References.{owned_pairs, reference_of, reference_tree};
 ghost use Rattle.value_text.specs.Stringified.{Stringifies, FitsObject};
 ghost use Rattle.value_text.specs.inner.Room.{HasRoom};
 
 use crate::reference_values::octets::octet_values;
 use giop_types::GiopTypes;
 use idl_value::Value;
-use object_references::{Ior, ReferenceFault, ior_from_text};
+use reference_texts::{Ior, ReferenceFault, ior_from_text};
 use std::alloc::{AllocError, Global};
 
 /// Whether so many sequences one inside another are enough for these profiles.

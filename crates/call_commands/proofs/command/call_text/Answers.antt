@@ -1,5 +1,5 @@
 use Rattle.std.proofs.Common.{◌≡◌, sym, Some}
-use Rattle.object_references.specs.References.{reference_of}
+use Rattle.reference_texts.specs.References.{reference_of}
 use Rattle.call_commands.specs.Choices.{choice_of, chosen}
 use Rattle.call_commands.proofs.Endings.{text_called}
 use Rattle.call_commands.proofs.command.call_text.Goals as goal

@@ -1,6 +1,6 @@
 use Rattle.std.proofs.Common.{ap, sym, refl, Option, Some, None, List, option_map, ◌≡◌, ◌∙◌}
 use Rattle.clap.specs.Words.{Row, Text, found_of, rows_of}
-use Rattle.table_commands.specs.declared.values.Way.TheVariants.{Encode, Decode}
+use Rattle.command_tables.specs.declared.values.Way.TheVariants.{Encode, Decode}
 use Rattle.command_words.proofs.ByCommand.{by_description, by_explanation, by_reference, by_value}
 use Rattle.command_words.proofs.Requests.{same_some}
 use Rattle.command_words.proofs.matches.task_in.Goals as goal

@@ -1,5 +1,5 @@
 use Rattle.giop_messages.proofs.OneMessage.{says_once}
-use Rattle.object_references.proofs.ProfileKeys.{profile_key_once}
+use Rattle.reference_texts.proofs.ProfileKeys.{profile_key_once}
 use Rattle.giop_messages.proofs.laws.one_is_said.Goals as goal
 
 pub returns : goal.returns

@@ -1,5 +1,5 @@
 use Rattle.std.proofs.Common.{List, ℕ}
-use Rattle.object_references.specs.Profiles.{Body}
+use Rattle.reference_texts.specs.Profiles.{Body}
 use Rattle.reference_listing.specs.inner.Bodies.{IsSomeFront}
 use Rattle.giop_types.proofs.Found.{none_then}
 use Rattle.reference_listing.proofs.Fronts.{no_profile}

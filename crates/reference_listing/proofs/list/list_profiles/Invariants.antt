@@ -1,5 +1,5 @@
 use Rattle.std.proofs.Common.{take}
-use Rattle.object_references.specs.References.{owned_pairs}
+use Rattle.reference_texts.specs.References.{owned_pairs}
 use Rattle.reference_listing.specs.Listings.{AreRows, rows_of}
 use Rattle.reference_listing.proofs.list.list_profiles.Given as goal
 

@@ -1,4 +1,4 @@
-use Rattle.object_references.proofs.ListLaws.{reading_weaker}
+use Rattle.reference_texts.proofs.ListLaws.{reading_weaker}
 use Rattle.reference_listing.proofs.Splits.{no_components}
 use Rattle.reference_listing.proofs.tape.body_of_tape.Goals as goal
 

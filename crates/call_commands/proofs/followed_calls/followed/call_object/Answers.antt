@@ -1,7 +1,7 @@
 use Rattle.std.proofs.Common.{arith, Some, Ok, Err}
 use Rattle.giop.specs.Made.{given_by}
-use Rattle.object_references.specs.References.{reference_of}
-use Rattle.giop_client.specs.Talks.{asking}
+use Rattle.reference_texts.specs.References.{reference_of}
+use Rattle.call_client.specs.Talks.{asking}
 use Rattle.call_commands.specs.Wanted.{called_of}
 use Rattle.call_commands.proofs.Chains.{ended, further, isnt_forwarded}
 use Rattle.call_commands.proofs.followed_calls.followed.call_object.Goals as goal

@@ -1,6 +1,6 @@
 use Rattle.giop.specs.Made.{given_by}
-use Rattle.object_references.specs.References.{reference_of}
-use Rattle.giop_client.specs.Talks.{asking}
+use Rattle.reference_texts.specs.References.{reference_of}
+use Rattle.call_client.specs.Talks.{asking}
 use Rattle.call_commands.specs.Wanted.{called_of}
 use Rattle.call_commands.specs.inner.Underway.{IsUnderway}
 use Rattle.call_commands.proofs.followed_calls.followed.call_object.Given as goal

@@ -1,9 +1,9 @@
 use Rattle.std.proofs.Common.{List, subst, sym}
 use Rattle.giop.specs.Made.{given_by}
-use Rattle.object_references.specs.References.{reference_of}
+use Rattle.reference_texts.specs.References.{reference_of}
 use Rattle.reference_listing.specs.declared.listing.ListedProfile.{ListedProfile}
 use Rattle.reference_listing.specs.Listings.{AreRows, rows_of}
-use Rattle.giop_client.specs.Talks.{asking}
+use Rattle.call_client.specs.Talks.{asking}
 use Rattle.call_commands.specs.Hops.{in_form}
 use Rattle.call_commands.specs.Wanted.{called_of}
 use Rattle.call_commands.proofs.Hops.{answered, sent, unanswered}

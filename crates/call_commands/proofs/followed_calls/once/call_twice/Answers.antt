@@ -1,7 +1,7 @@
 use Rattle.std.proofs.Common.{sym, ◌∙◌}
 use Rattle.giop.specs.Made.{given_by}
-use Rattle.object_references.specs.References.{reference_of}
-use Rattle.giop_client.specs.Talks.{asking}
+use Rattle.reference_texts.specs.References.{reference_of}
+use Rattle.call_client.specs.Talks.{asking}
 use Rattle.call_commands.specs.Hops.{in_form}
 use Rattle.call_commands.specs.Wanted.{called_of}
 use Rattle.call_commands.proofs.Tries.{again}

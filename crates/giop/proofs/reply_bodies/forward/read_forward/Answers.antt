@@ -1,5 +1,5 @@
 use Rattle.type_graph.specs.Value.{Tree}
-use Rattle.object_references.specs.References.{reference_of, reference_tree}
+use Rattle.reference_texts.specs.References.{reference_of, reference_tree}
 use Rattle.giop.specs.Bodies.{BeginsWith}
 use Rattle.giop.specs.inner.ReplyBodiesTapes.{HasTape}
 use Rattle.giop_types.proofs.Found.{no_tape, none_then, some_then}

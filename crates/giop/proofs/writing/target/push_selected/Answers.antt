@@ -3,7 +3,7 @@ use Rattle.type_graph.specs.declared.width.Width.TheVariants.{Four}
 use Rattle.type_graph.specs.declared.width.Order.TheVariants.{Big}
 use Rattle.type_graph.specs.Words.{word}
 use Rattle.type_graph.specs.Value.{IsText}
-use Rattle.object_references.specs.References.{IsReference, reference_of, reference_tape}
+use Rattle.reference_texts.specs.References.{IsReference, reference_of, reference_tape}
 use Rattle.giop.proofs.WrittenTargets.{on_ok_both, reference_pushed, refused_weaker, selected_reference}
 use Rattle.giop.proofs.writing.target.push_selected.Goals as goal
 

@@ -1,6 +1,6 @@
 use Rattle.std.proofs.Common.{Bool, sym, ◌∙◌, subst}
 use Rattle.std.specs.String.{string_bytes}
-use Rattle.object_references.specs.References.{reference_of}
+use Rattle.reference_texts.specs.References.{reference_of}
 use Rattle.reference_listing.specs.Described.{IsToldBy}
 use Rattle.reference_listing.proofs.spelled_references.described.described_reference.Goals as goal
 

@@ -1,9 +1,9 @@
 use Rattle.std.proofs.Common.{List, ℕ, subst, sym}
 use Rattle.std.proofs.lemmas.Result.{IfOk-weaker}
-use Rattle.object_references.specs.Encapsulations.{Encapsulates, IsSo}
-use Rattle.object_references.specs.Manners.{manner_of}
-use Rattle.object_references.specs.References.{reference_of, reference_tree}
-use Rattle.object_references.proofs.TextLaws.{spelled_there}
+use Rattle.reference_texts.specs.Encapsulations.{Encapsulates, IsSo}
+use Rattle.reference_texts.specs.Manners.{manner_of}
+use Rattle.reference_texts.specs.References.{reference_of, reference_tree}
+use Rattle.reference_texts.proofs.TextLaws.{spelled_there}
 use Rattle.reference_listing.proofs.Manners.{so_of}
 use Rattle.reference_listing.proofs.spelled_references.described.told.Goals as goal
 

@@ -1,9 +1,9 @@
 use Rattle.std.proofs.Common.{◌∙◌, List, ℕ, append_assoc, subst, sym}
 use Rattle.std.proofs.lemmas.Result.{IfOk-weaker}
 use Rattle.std.specs.String.{string_bytes}
-use Rattle.object_references.specs.References.{reference_of}
-use Rattle.object_references.specs.Texts.{Spells}
-use Rattle.object_references.proofs.TextLaws.{text_read}
+use Rattle.reference_texts.specs.References.{reference_of}
+use Rattle.reference_texts.specs.Texts.{Spells}
+use Rattle.reference_texts.proofs.TextLaws.{text_read}
 use Rattle.reference_listing.specs.Described.{IsToldOf}
 use Rattle.reference_listing.proofs.spelled_references.described.told_of_url.Goals as goal
 

@@ -1,6 +1,6 @@
 use Rattle.std.proofs.Common.{◌≡◌, take}
 use Rattle.std.specs.String.{string_bytes}
-use Rattle.object_references.specs.References.{owned_pairs}
+use Rattle.reference_texts.specs.References.{owned_pairs}
 use Rattle.reference_listing.specs.Pieces.{AreLines, IsComponent}
 use Rattle.reference_listing.proofs.spelled_references.lines.component_lines.Given as goal
 

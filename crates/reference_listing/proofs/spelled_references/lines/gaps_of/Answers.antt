@@ -1,7 +1,7 @@
 use Rattle.std.proofs.Common.{ℕ, subst}
-use Rattle.object_references.specs.Encapsulations.{Encapsulates, IsSo}
-use Rattle.object_references.specs.Manners.{manner_of}
-use Rattle.object_references.specs.Profiles.{body_tree}
+use Rattle.reference_texts.specs.Encapsulations.{Encapsulates, IsSo}
+use Rattle.reference_texts.specs.Manners.{manner_of}
+use Rattle.reference_texts.specs.Profiles.{body_tree}
 use Rattle.reference_listing.specs.Listings.{iiop_of}
 use Rattle.reference_listing.proofs.Manners.{listed_read, listed_so}
 use Rattle.reference_listing.proofs.spelled_references.lines.gaps_of.Goals as goal

@@ -1,5 +1,5 @@
 use Rattle.std.proofs.Common.{rules}
-use Rattle.object_references.specs.Views.{place_of}
+use Rattle.reference_texts.specs.Views.{place_of}
 use Rattle.reference_listing.proofs.Faults.{no_reference}
 use Rattle.reference_listing.proofs.spelled_references.place.reference_at.Goals as goal
 

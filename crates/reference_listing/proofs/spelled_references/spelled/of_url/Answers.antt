@@ -1,4 +1,4 @@
-use Rattle.object_references.specs.Views.{place_of}
+use Rattle.reference_texts.specs.Views.{place_of}
 use Rattle.reference_listing.proofs.Faults.{bad_ior, bad_url}
 use Rattle.reference_listing.proofs.Once.{no_place, no_url}
 use Rattle.reference_listing.proofs.spelled_references.spelled.of_url.Goals as goal

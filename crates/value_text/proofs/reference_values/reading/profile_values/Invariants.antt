@@ -1,7 +1,7 @@
 use Rattle.std.proofs.Common.{◌≡◌, take}
 use Rattle.idl_value.specs.View.{trees_of}
 use Rattle.giop_types.specs.Fields.{tagged_trees}
-use Rattle.object_references.specs.References.{owned_pairs}
+use Rattle.reference_texts.specs.References.{owned_pairs}
 use Rattle.value_text.proofs.reference_values.reading.profile_values.Given as goal
 
 abbrev pub invariant-loop-tag : goal.invariant-loop-tag

@@ -1,5 +1,5 @@
 use Rattle.std.proofs.Common.{subst, sym, ap, rules}
-use Rattle.object_references.specs.References.{owned_pairs, reference_of}
+use Rattle.reference_texts.specs.References.{owned_pairs, reference_of}
 use Rattle.value_text.specs.inner.Room.{HasRoom}
 use Rattle.value_text.proofs.Spelled.{spelled_fits, no_room}
 use Rattle.value_text.proofs.reference_values.reading.reference_value.Goals as goal

@@ -1,0 +1,55 @@
+-- What is answered to one who asks a table for a value.
+use Rattle.std.specs.Prelude.{◌≡◌, ◌≢◌, ℕ, List, All, Contains, IsErr, Ok}
+use Rattle.hex.specs.Hex.{decode_of}
+use Rattle.type_graph.specs.declared.width.Order.{Order}
+use Rattle.table_file.specs.Table.{TableParts}
+use Rattle.command_tables.specs.declared.values.Way.{Way}
+use Rattle.command_tables.specs.declared.values.ValueRequest.{ValueRequest}
+use Rattle.command_tables.specs.declared.refusal.Refusal.{Refusal}
+use Rattle.command_tables.specs.declared.refusal.Refusal.TheVariants.{NoType, BadHex, Refused, NoMemory}
+use Rattle.command_tables.specs.Lines.{Answers, HasNoAnswer}
+
+-- one value to marshal: its tape or octets in hexadecimal, or its text
+pub record Ask : Type 0 where
+  pub way : Way
+  pub name : List ℕ
+  pub order : Order
+  pub pos : ℕ
+  pub input : List ℕ
+
+abbrev pub ask_of : ValueRequest → List ℕ → Ask
+ask_of request input = record {
+  way = request.way;
+  name = request.name.now;
+  order = request.order;
+  pos = request.pos;
+  input = input;
+}
+
+-- the line that answers
+pub record IsLine (table : TableParts) (ask : Ask) (line : List ℕ) : Type 0 where
+  pub node : ℕ
+  pub named : Contains table.model.names (ask.name, node)
+  pub answers : Answers table.model.graph node ask.way ask.order ask.pos ask.input line
+
+-- the name is there, but its digits are none
+pub record HasBadDigits (table : TableParts) (ask : Ask) : Type 0 where
+  pub node : ℕ
+  pub named : Contains table.model.names (ask.name, node)
+  pub bad : IsErr (decode_of ask.input)
+
+-- the value that is asked for isn't there
+pub record IsEmptyAsk (table : TableParts) (ask : Ask) : Type 0 where
+  pub node : ℕ
+  pub named : Contains table.model.names (ask.name, node)
+  pub input : List ℕ
+  pub digits_are : decode_of ask.input ≡ Ok input
+  pub none : HasNoAnswer table.model.graph node ask.way ask.order ask.pos input
+
+-- the refusal that answers
+abbrev pub IsRefusalOf : TableParts → Ask → Refusal → Type 0
+IsRefusalOf table ask (NoType name) = (name.now ≡ ask.name) × All (λ pair. pair.0 ≢ ask.name) table.model.names
+IsRefusalOf table ask BadHex = HasBadDigits table ask
+IsRefusalOf table ask (Refused fault) = IsEmptyAsk table ask
+IsRefusalOf table ask NoMemory = Unit {0}
+IsRefusalOf table ask refusal = ⊥

@@ -1,5 +1,0 @@
-use Rattle.fault_texts.specs.Named.{AreTexts}
-use Rattle.fault_texts.proofs.named.explanations.Goals as goal
-
-pub loop-number-init : goal.loop-number-init
-loop-number-init c = rw c.new-texts.ensures.bytes AreTexts.none

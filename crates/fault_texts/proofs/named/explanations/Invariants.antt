@@ -1,6 +1,0 @@
-use Rattle.std.specs.String.{string_bytes}
-use Rattle.fault_texts.specs.Named.{AreTexts}
-use Rattle.fault_texts.proofs.named.explanations.Given as goal
-
-abbrev pub invariant-loop-number : goal.invariant-loop-number
-invariant-loop-number l = AreTexts l.word l.number (string_bytes l.texts)

@@ -1,6 +1,0 @@
-use Rattle.std.proofs.Common.{◌≡◌, ◌++◌, drop}
-use Rattle.fault_views.specs.Shown.{all_shown}
-use Rattle.fault_views.proofs.shown_source.shown.all_shown.Given as goal
-
-abbrev pub invariant-loop-octet : goal.invariant-loop-octet
-invariant-loop-octet l = l.text.items ++ all_shown (drop l.octet-index l.octets) ≡ all_shown l.octets

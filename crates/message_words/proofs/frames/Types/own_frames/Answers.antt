@@ -1,5 +1,0 @@
-use Rattle.std.proofs.Common.{arith, refl}
-use Rattle.message_words.proofs.frames.Types.own_frames.Goals as goal
-
-pub own-requires : goal.own-requires
-own-requires c = (11, omega arith, refl)

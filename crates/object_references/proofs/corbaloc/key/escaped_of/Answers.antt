@@ -1,6 +1,0 @@
-use Rattle.std.proofs.Common.{arith}
-use Rattle.object_references.proofs.Keys.{too_short}
-use Rattle.object_references.proofs.corbaloc.key.escaped_of.Goals as goal
-
-pub returns-in_default-clause-refused : goal.returns-in_default-clause-refused
-returns-in_default-clause-refused c = too_short c.args.text.now (omega arith)

@@ -1,9 +1,0 @@
-use Rattle.std.proofs.Common.{◌≡◌, ◌++◌, length, option_map}
-use Rattle.object_references.specs.Places.{key_of as key_in}
-use Rattle.object_references.proofs.corbaloc.key.key_of.Given as goal
-
-abbrev pub invariant-loop-left : goal.invariant-loop-left
-invariant-loop-left l = key_in l.text ≡ option_map (λ more. l.key.items ++ more) (key_in l.left)
-
-abbrev pub decreases-loop-left : goal.decreases-loop-left
-decreases-loop-left l = length l.left

@@ -1,8 +1,0 @@
-use Rattle.std.proofs.Common.{◌≡◌, ◌+◌, ◌++◌, drop}
-use Rattle.object_references.specs.Encapsulations.{differences}
-use Rattle.object_references.proofs.manner.differing.Given as goal
-
-abbrev pub invariant-loop-place : goal.invariant-loop-place
-invariant-loop-place l =
-    differences 1 l.clean l.front
-    ≡ l.all.items ++ differences (l.place + 1) (drop l.place l.clean) (drop l.place l.front)

@@ -1,7 +1,0 @@
-use Rattle.std.proofs.Common.{◌≡◌, take}
-use Rattle.giop_types.specs.TapeParts.{pairs_of}
-use Rattle.object_references.specs.References.{owned_pairs}
-use Rattle.object_references.proofs.reference.owned.Given as goal
-
-abbrev pub invariant-loop-profile : goal.invariant-loop-profile
-invariant-loop-profile l = owned_pairs l.all.items ≡ pairs_of (take l.profile-index l.profiles)

@@ -1,7 +1,0 @@
-use Rattle.object_references.proofs.text.ior_to_text.Goals as goal
-use Rattle.type_graph.proofs.Refusals.{only_if_weaker}
-use Rattle.object_references.specs.Refusal.{wants_memory}
-
-pub returns-in-Err-clause-refused : goal.returns-in-Err-clause-refused
-returns-in-Err-clause-refused c =
-    only_if_weaker (wants_memory c.in-Err.fault) _ _ (λ none text is. none is.octets is.written) c.in-Err.ensures.refused

@@ -1,7 +1,0 @@
-use Rattle.socket_server.proofs.Counts.{all_came}
-use Rattle.socket_server.proofs.serving.serve_in_turn.Goals as goal
-
-pub returns-clause-done : goal.returns-clause-done
-returns-clause-done g c =
-    all_came c.args.table.model c.args.options.now.object.now c.args.options.now.connections c.new-loopback.result.count
-    c.serve_at.new.listener.count c.new-loopback.ensures c.in_ok-serve_at.ensures.done
