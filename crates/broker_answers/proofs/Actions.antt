@@ -18,14 +18,16 @@ use Rattle.broker_answers.proofs.Places.{one_name}
 -- an operation of the object does what its number says
 pub action_found : (model : Parts) (getters numbers : List ℕ) (number : ℕ)
     → action_in (with_actions model getters numbers) number
-    ≡ cond (list_any (λ other. nat_eq other number) numbers) (action_at (attribute_named model getters) model number) Nothing
+    ≡ cond (list_any (λ other. nat_eq other number) numbers) (action_at (attribute_named model getters) model number)
+    Nothing
 action_found model getters [] number = refl
 action_found model getters (m ∷ more) number = by (nat_eq m number) refl (action_found model getters more number) where
   any : Bool
   any = list_any (λ other. nat_eq other number) more
 
   by : (b : Bool) → nat_eq m number ≡ b
-      → action_in (with_actions model getters more) number ≡ cond any (action_at (attribute_named model getters) model number) Nothing
+      → action_in (with_actions model getters more) number
+      ≡ cond any (action_at (attribute_named model getters) model number) Nothing
       → cond b (action_at (attribute_named model getters) model m) (action_in (with_actions model getters more) number)
       ≡ cond (b || any) (action_at (attribute_named model getters) model number) Nothing
   by true same further = ap (action_at (attribute_named model getters) model) (eqb-true m number same)
@@ -48,7 +50,8 @@ first_found model name (m ∷ more) number e =
 
     by : (b : Bool) → has_name name (slice_get model.operations m) ≡ b
         → cond b (Some m) (first_named model name more) ≡ Some number
-        → (first_named model name more ≡ Some number → IsFound model name more number) → IsFound model name (m ∷ more) number
+        → (first_named model name more ≡ Some number → IsFound model name more number)
+        → IsFound model name (m ∷ more) number
     by true is e further =
         let same = some_is m number e in
         record {
@@ -80,7 +83,8 @@ frame_sets_none : (k : ℕ) (graph : List Node) (operation : Operation) → sets
 frame_sets_none k graph operation =
     frames_set_none k (members_of (node_at graph operation.request)) (members_of (node_at graph operation.reply))
 
-got_sets_none : (k : ℕ) (got : Option ℕ) (other : Action) → sets_at k other ≡ false → sets_at k (action_or got None other) ≡ false
+got_sets_none : (k : ℕ) (got : Option ℕ) (other : Action) → sets_at k other ≡ false
+    → sets_at k (action_or got None other) ≡ false
 got_sets_none k None other e = e
 got_sets_none k (Some j) other e = refl
 
@@ -99,7 +103,8 @@ placed_sets model getters name y k other e place (Some j) is = by (bytes_eq y na
 
 pub operation_sets : (model : Parts) (getters name : List ℕ) (k : ℕ) (operation : Operation)
     → place_from model 0 name getters ≡ Some k
-    → sets_at k (action_where (attribute_named model getters) model.graph operation) ≡ bytes_eq operation.name (codes "_set_" ++ name)
+    → sets_at k (action_where (attribute_named model getters) model.graph operation)
+    ≡ bytes_eq operation.name (codes "_set_" ++ name)
 operation_sets model getters name k operation place =
     by_got (got_by operation) refl ∙ sym (named_behind (codes "_set_") operation.name name)
   where
@@ -112,22 +117,29 @@ operation_sets model getters name k operation place =
     is_name : Option (List ℕ) → Bool
     is_name o = option_map_or (λ other. bytes_eq other name) o false
 
-    by_set : (set : Option (List ℕ)) → sets_at k (action_or None (option_and_then (attribute_named model getters) set) frame) ≡ is_name set
+    by_set : (set : Option (List ℕ))
+        → sets_at k (action_or None (option_and_then (attribute_named model getters) set) frame) ≡ is_name set
     by_set None = none
     by_set (Some y) = placed_sets model getters name y k frame none place (place_from model 0 y getters) refl
 
     by_got : (got : Option (List ℕ)) → got_by operation ≡ got
-        → sets_at k (action_or (option_and_then (attribute_named model getters) got) (option_and_then (attribute_named model getters) (set_by operation)) frame)
+        → sets_at k (action_or (option_and_then (attribute_named model getters) got)
+        (option_and_then (attribute_named model getters) (set_by operation)) frame)
         ≡ is_name (set_by operation)
     by_got None e = by_set (set_by operation)
     by_got (Some x) e =
-        subst (λ s. sets_at k (action_or (place_from model 0 x getters) (option_and_then (attribute_named model getters) s) frame) ≡ is_name s)
+        subst (λ s. sets_at k (action_or (place_from model 0 x getters)
+        (option_and_then (attribute_named model getters) s) frame) ≡ is_name s)
         (sym (sets_none operation x e)) (got_sets_none k (place_from model 0 x getters) frame none)
 
-pub number_sets : (model : Parts) (getters name : List ℕ) (k : ℕ) (number : ℕ) → place_from model 0 name getters ≡ Some k
-    → sets_at k (action_at (attribute_named model getters) model number) ≡ has_name (codes "_set_" ++ name) (slice_get model.operations number)
+pub number_sets : (model : Parts) (getters name : List ℕ) (k : ℕ) (number : ℕ)
+    → place_from model 0 name getters ≡ Some k
+    → sets_at k (action_at (attribute_named model getters) model number)
+    ≡ has_name (codes "_set_" ++ name) (slice_get model.operations number)
 number_sets model getters name k number place = by (slice_get model.operations number) where
-  by : (o : Option Operation) → sets_at k (option_map_or (action_where (attribute_named model getters) model.graph) o Nothing) ≡ has_name (codes "_set_" ++ name) o
+  by : (o : Option Operation)
+      → sets_at k (option_map_or (action_where (attribute_named model getters) model.graph) o Nothing)
+      ≡ has_name (codes "_set_" ++ name) o
   by None = refl
   by (Some operation) = operation_sets model getters name k operation place
 
@@ -135,12 +147,15 @@ number_sets model getters name k number place = by (slice_get model.operations n
 
 -- the operation `_get_x` gets the attribute x
 pub number_gets : (model : Parts) (getters name : List ℕ) (k number : ℕ) → place_from model 0 name getters ≡ Some k
-    → has_name (codes "_get_" ++ name) (slice_get model.operations number) ≡ true → action_at (attribute_named model getters) model number ≡ Get k
+    → has_name (codes "_get_" ++ name) (slice_get model.operations number) ≡ true
+    → action_at (attribute_named model getters) model number ≡ Get k
 number_gets model getters name k number there = by (slice_get model.operations number) where
-  by : (o : Option Operation) → has_name (codes "_get_" ++ name) o ≡ true → option_map_or (action_where (attribute_named model getters) model.graph) o Nothing ≡ Get k
+  by : (o : Option Operation) → has_name (codes "_get_" ++ name) o ≡ true
+      → option_map_or (action_where (attribute_named model getters) model.graph) o Nothing ≡ Get k
   by None e = absurd (false_isnt e)
   by (Some operation) e =
-      ap (λ o. action_or (option_and_then place o) set frame) (got_is operation name e) ∙ ap (λ o. action_or o set frame) there
+      ap (λ o. action_or (option_and_then place o) set frame) (got_is operation name e)
+      ∙ ap (λ o. action_or o set frame) there
     where
       place : List ℕ → Option ℕ
       place = attribute_named model getters

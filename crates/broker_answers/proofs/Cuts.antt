@@ -64,7 +64,8 @@ front_shorter run octets =
 
 -- more levels than octets change nothing
 enough_front : (n m : ℕ) (run : Option (List ℕ)) (octets : List ℕ) (f : Front) → IsShorter octets f
-    → ((run' : Option (List ℕ)) (rest : List ℕ) → length rest < length octets → cut_within n run' rest ≡ cut_within m run' rest)
+    → ((run' : Option (List ℕ)) (rest : List ℕ) → length rest < length octets
+    → cut_within n run' rest ≡ cut_within m run' rest)
     → cut_front (cut_within n) run octets f ≡ cut_front (cut_within m) run octets f
 enough_front n m run octets More short same = refl
 enough_front n m run octets (Broken fault) short same = refl

@@ -107,7 +107,8 @@ mutual
       (λ q. all_there order graph (arm_of arms default label) values d f.1 q)
   encodes_there order graph node value d f p = absurd f
 
-  all_there : (order : Order) (graph : List Node) (numbers : List ℕ) (values : Trees) (d : ℕ) → FitAll graph numbers values d
+  all_there : (order : Order) (graph : List Node) (numbers : List ℕ) (values : Trees) (d : ℕ)
+      → FitAll graph numbers values d
       → (p : ℕ) → Short (EncodeAll (writing order) graph numbers values) p (rooms values)
   all_there order graph [] NoTree d f p = just_there [] p
   all_there order graph (number ∷ numbers) (AndTree value values) d f p =

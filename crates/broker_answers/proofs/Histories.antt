@@ -37,14 +37,17 @@ zeros_there : (model : Parts) (objects : Objects) (object number : ℕ) (name : 
     → object < length (all_zeros model objects)
 zeros_there model [] object number name e = absurd (none_isnt number e)
 zeros_there model (o ∷ more) zero number name e = omega arith
-zeros_there model (o ∷ more) (suc object) number name e = let less = zeros_there model more object number name e in omega (arith, less)
+zeros_there model (o ∷ more) (suc object) number name e = let less = zeros_there model more object number name e in
+    omega (arith, less)
 
-mapped_at : {A B : Type 0} (f : A → B) (xs : List A) (k : ℕ) (x : A) (d : B) → slice_get xs k ≡ Some x → slice_index_or (map f xs) k d ≡ f x
+mapped_at : {A B : Type 0} (f : A → B) (xs : List A) (k : ℕ) (x : A) (d : B) → slice_get xs k ≡ Some x
+    → slice_index_or (map f xs) k d ≡ f x
 mapped_at f [] k x d e = absurd (none_isnt x e)
 mapped_at f (y ∷ ys) zero x d e = let same : y ≡ x = cc in ap f same
 mapped_at f (y ∷ ys) (suc k) x d e = mapped_at f ys k x d e
 
-mapped_within : {A B : Type 0} (f : A → B) (xs : List A) (k : ℕ) (x : A) → slice_get xs k ≡ Some x → k < length (map f xs)
+mapped_within : {A B : Type 0} (f : A → B) (xs : List A) (k : ℕ) (x : A) → slice_get xs k ≡ Some x
+    → k < length (map f xs)
 mapped_within f [] k x e = absurd (none_isnt x e)
 mapped_within f (y ∷ ys) zero x e = omega arith
 mapped_within f (y ∷ ys) (suc k) x e = let less = mapped_within f ys k x e in omega (arith, less)
@@ -59,13 +62,16 @@ record IsReady (s : Served) (object k : ℕ) (kept : Keeping) : Type 0 where
 
 tapes_same : (kept : Keeping) (object j : ℕ) (tape : List ℕ) → object < length kept.tapes
     → tapes_at (with_tape kept object j tape) object ≡ slice_set (tapes_at kept object) j tape
-tapes_same kept object j tape there = get_or-set_same kept.tapes object (slice_set (tapes_at kept object) j tape) [] there
+tapes_same kept object j tape there =
+    get_or-set_same kept.tapes object (slice_set (tapes_at kept object) j tape) [] there
 
 tapes_other : (kept : Keeping) (object other j : ℕ) (tape : List ℕ) → other ≢ object
     → tapes_at (with_tape kept object j tape) other ≡ tapes_at kept other
-tapes_other kept object other j tape apart = get_or-set_other kept.tapes object other (slice_set (tapes_at kept object) j tape) [] apart
+tapes_other kept object other j tape apart =
+    get_or-set_other kept.tapes object other (slice_set (tapes_at kept object) j tape) [] apart
 
-set_ready : (s : Served) (object k : ℕ) (kept : Keeping) (at j : ℕ) (tape : List ℕ) (same : Bool) → nat_eq at object ≡ same
+set_ready : (s : Served) (object k : ℕ) (kept : Keeping) (at j : ℕ) (tape : List ℕ) (same : Bool)
+    → nat_eq at object ≡ same
     → IsReady s object k kept → IsReady s object k (with_tape kept at j tape)
 set_ready s object k kept at j tape true same r = record {
   actions = r.actions;
@@ -77,7 +83,8 @@ set_ready s object k kept at j tape true same r = record {
 set_ready s object k kept at j tape false apart r = record {
   actions = r.actions;
   there = subst (λ n. object < n) (sym (length-set kept.tapes at (slice_set (tapes_at kept at) j tape))) r.there;
-  held = subst (λ ts. k < length ts) (sym (tapes_other kept at object j tape (λ e. eqb-false at object apart (sym e)))) r.held;
+  held = subst (λ ts. k < length ts) (sym (tapes_other kept at object j tape (λ e. eqb-false at object apart (sym e))))
+      r.held;
 }
 
 stays_ready : (s : Served) (object k : ℕ) (kept : Keeping) (call : Call) (d : Action) → IsReady s object k kept
@@ -99,7 +106,8 @@ place_set tapes j k tape true same held =
     ap (λ n. slice_index_or (slice_set tapes n tape) k []) (eqb-true j k same) ∙ get_or-set_same tapes k tape [] held
 place_set tapes j k tape false apart held = get_or-set_other tapes j k tape [] (λ e. eqb-false j k apart (sym e))
 
-tape_set : (s : Served) (object k : ℕ) (kept : Keeping) (at j : ℕ) (tape : List ℕ) (same : Bool) → nat_eq at object ≡ same
+tape_set : (s : Served) (object k : ℕ) (kept : Keeping) (at j : ℕ) (tape : List ℕ) (same : Bool)
+    → nat_eq at object ≡ same
     → IsReady s object k kept
     → tape_at (with_tape kept at j tape) object k ≡ cond (same && nat_eq j k) tape (tape_at kept object k)
 tape_set s object k kept at j tape true same r =
@@ -122,7 +130,8 @@ tape_after s object k kept call Nothing r = unset (nat_eq call.object object) ca
 
 -- what an operation does by its number
 abbrev action_served_at : Served → ℕ → ℕ → Action
-action_served_at s object number = action_at (attribute_named s.model (getters_of s.model (operations_served s object))) s.model number
+action_served_at s object number =
+    action_at (attribute_named s.model (getters_of s.model (operations_served s object))) s.model number
 
 -- what a call to an object does is by its number alone
 action_served : (s : Served) (kept : Keeping) (call : Call) → kept.actions ≡ all_actions s.model s.objects
@@ -132,7 +141,8 @@ action_served : (s : Served) (kept : Keeping) (call : Call) → kept.actions ≡
 action_served s kept call actions =
     ap (λ ds. action_in (slice_index_or ds call.object []) call.operation) actions
     ∙ ap (λ rows. action_in rows call.operation) (served_actions s.model s.objects call.object)
-    ∙ action_found s.model (getters_of s.model (operations_served s call.object)) (operations_served s call.object) call.operation
+    ∙ action_found s.model (getters_of s.model (operations_served s call.object)) (operations_served s call.object)
+    call.operation
 
 -- whether a call sets the attribute is by its operation's name
 sets_by_name : (s : Served) (object k : ℕ) (name : List ℕ) (kept : Keeping) (call : Call)
@@ -173,7 +183,8 @@ all_set s object k name kept (call ∷ calls) r place =
     ∙ ap (λ b. cond b call.arguments (tape_at kept object k)) (sets_by_name s object k name kept call r.actions place))
 
 -- the call gets the attribute, whatever was called before
-gets_then : (s : Served) (x : List ℕ) (call : Call) (k : ℕ) (kept : Keeping) → kept.actions ≡ all_actions s.model s.objects
+gets_then : (s : Served) (x : List ℕ) (call : Call) (k : ℕ) (kept : Keeping)
+    → kept.actions ≡ all_actions s.model s.objects
     → place_from s.model 0 x (getters_of s.model (operations_served s call.object)) ≡ Some k
     → IsFound s.model (codes "_get_" ++ x) (operations_served s call.object) call.operation → action kept call ≡ Get k
 gets_then s x call k kept actions place found =
@@ -186,8 +197,10 @@ pub says_last_set : (s : Served) (x : List ℕ) (call : Call) (before : List Cal
     → says (after_all (first_keeping s.model s.objects) before) call
     ≡ Done (last_set (sets s call.object x) (first_tape s.model call.operation) before)
 says_last_set s x call before e =
-    ap (said last call) (gets_then s x call got.k last ready_last.actions place (first_found s.model (codes "_get_" ++ x) numbers call.operation e))
-    ∙ ap Done (all_set s call.object got.k x first before ready place ∙ ap (λ tape. last_set (sets s call.object x) tape before) zeros)
+    ap (said last call) (gets_then s x call got.k last ready_last.actions place
+    (first_found s.model (codes "_get_" ++ x) numbers call.operation e))
+    ∙ ap Done (all_set s call.object got.k x first before ready place
+    ∙ ap (λ tape. last_set (sets s call.object x) tape before) zeros)
   where
     numbers : List ℕ
     numbers = operations_served s call.object

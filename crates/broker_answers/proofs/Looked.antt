@@ -22,7 +22,8 @@ pub one_more : (model : Parts) (getters : List ℕ) (p q : ℕ) (before after : 
 one_more model getters p q before after key name updates got was next less =
     updates
     ∙ ap (λ b. cond b (Some p) before) (sym (got_of name key (slice_get model.operations (get_or getters p 0)) got))
-    ∙ ap (cond (is_getter_of model name (get_or getters p 0)) (Some p)) (was ∙ ap (λ n. place_from model n name (drop n getters)) next)
+    ∙ ap (cond (is_getter_of model name (get_or getters p 0)) (Some p))
+    (was ∙ ap (λ n. place_from model n name (drop n getters)) next)
     ∙ ap (place_from model p name) (sym (drop-cons getters p 0 less))
 
 -- what an operation does is by where attributes are, however they are looked up

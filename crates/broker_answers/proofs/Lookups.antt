@@ -21,7 +21,8 @@ none_isnt a e = absurd (cc)
 false_isnt : false ≡ true → ⊥
 false_isnt e = absurd (cc)
 
-all_at : {A : Type 0} (P : A → Type 0) (xs : List A) (i : ℕ) (x : A) → AllByRecursion P xs → slice_get xs i ≡ Some x → P x
+all_at : {A : Type 0} (P : A → Type 0) (xs : List A) (i : ℕ) (x : A) → AllByRecursion P xs → slice_get xs i ≡ Some x
+    → P x
 all_at P [] i x all e = absurd (none_isnt x e)
 all_at P (y ∷ ys) zero x all e = subst P (some_is y x e) all.0
 all_at P (y ∷ ys) (suc i) x all e = all_at P ys i x all.1 e
@@ -83,7 +84,8 @@ first_there : (model : Parts) (name numbers : List ℕ) (number : ℕ) → first
     → slice_get model.operations number ≡ None → ⊥
 first_there model name [] number e none = none_isnt number e
 first_there model name (other ∷ more) number e none =
-    named_by model name number other (has_name name (slice_get model.operations other)) (first_named model name more) refl
+    named_by model name number other (has_name name (slice_get model.operations other)) (first_named model name more)
+    refl
     e (first_there model name more number) none
 
 -- an operation that an interface has is there
@@ -96,7 +98,8 @@ pub request_named : (model : Parts) (number : ℕ) (operation : Operation) → I
     → slice_get model.operations number ≡ Some operation → IsNamed model.names operation.request
 request_named model number operation rules there =
     let P = IsOperation model.graph model.names (length model.exceptions) in
-    (all_at P model.operations number operation (recursion_from_All P model.operations rules.declared.each_operation) there).request.named
+    (all_at P model.operations number operation (recursion_from_All P model.operations rules.declared.each_operation)
+    there).request.named
 
 -- the exceptions of an operation are there
 pub exception_there : (model : Parts) (number place exception : ℕ) (operation : Operation) → IsModel model
@@ -104,7 +107,8 @@ pub exception_there : (model : Parts) (number place exception : ℕ) (operation 
     → slice_get model.exceptions exception ≡ None → ⊥
 exception_there model number place exception operation rules there listed none =
     let P = IsOperation model.graph model.names (length model.exceptions) in
-    let is = all_at P model.operations number operation (recursion_from_All P model.operations rules.declared.each_operation) there in
+    let is = all_at P model.operations number operation
+    (recursion_from_All P model.operations rules.declared.each_operation) there in
     let Q : ℕ → Type 0 = λ n. n < length model.exceptions in
     get_within model.exceptions exception
     (all_at Q operation.exceptions place exception (recursion_from_All Q operation.exceptions is.raises) listed) none
@@ -114,7 +118,8 @@ pub frame_named : (model : Parts) (number : ℕ) (exception : Exception) → IsM
     → slice_get model.exceptions number ≡ Some exception → IsNamed model.names exception.frame
 frame_named model number exception rules there =
     let P = IsException model.graph model.names in
-    (all_at P model.exceptions number exception (recursion_from_All P model.exceptions rules.declared.each_exception) there).frame.named
+    (all_at P model.exceptions number exception (recursion_from_All P model.exceptions rules.declared.each_exception)
+    there).frame.named
 
 pub thrown_named : (model : Parts) (operation : Operation) (place : ℕ) (exception : Exception) → IsModel model
     → IsThrown model operation place exception → IsNamed model.names exception.frame

@@ -29,7 +29,8 @@ equal_name name = (bytes_eq-Decides name name).1 refl
 letter : (same : Bool) (fs ts name : List ℕ)
     → bytes_eq ts (fs ++ name) ≡ option_map_or (λ other. bytes_eq other name) (behind fs ts) false
     → (same && bytes_eq ts (fs ++ name))
-    ≡ option_map_or (λ other. bytes_eq other name) (cond (same && bytes_eq (take (length fs) ts) fs) (Some (drop (length fs) ts)) None) false
+    ≡ option_map_or (λ other. bytes_eq other name)
+    (cond (same && bytes_eq (take (length fs) ts) fs) (Some (drop (length fs) ts)) None) false
 letter true fs ts name e = e
 letter false fs ts name e = refl
 
@@ -55,5 +56,6 @@ pub sets_none : (operation : Operation) (x : List ℕ) → got_by operation ≡ 
 sets_none operation x e = ap (behind (codes "_set_")) (behind_is (codes "_get_") operation.name x e)
 
 -- one that is named so gets the attribute
-pub got_is : (operation : Operation) (x : List ℕ) → bytes_eq operation.name (codes "_get_" ++ x) ≡ true → got_by operation ≡ Some x
+pub got_is : (operation : Operation) (x : List ℕ) → bytes_eq operation.name (codes "_get_" ++ x) ≡ true
+    → got_by operation ≡ Some x
 got_is operation x e = ap (behind (codes "_get_")) (same_name operation.name (codes "_get_" ++ x) e)

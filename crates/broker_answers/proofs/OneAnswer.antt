@@ -38,10 +38,12 @@ not_given a e = absurd (cc)
 
 -- ---- what is sent
 
-sent_once : (asked : Asked) (reply : Reply) (x y : List ℕ) → ((given : Given) → reply.body ≡ Some given → IsGraph given.graph)
+sent_once : (asked : Asked) (reply : Reply) (x y : List ℕ)
+    → ((given : Given) → reply.body ≡ Some given → IsGraph given.graph)
     → IsSent asked reply x → IsSent asked reply y → x ≡ y
 sent_once asked reply x y rules a b =
-    written_once asked.order 1 19 (reply_tree asked.id (number_of reply.status) NoTree) reply.body x y rules a.written b.written
+    written_once asked.order 1 19 (reply_tree asked.id (number_of reply.status) NoTree) reply.body x y rules a.written
+    b.written
 
 exception_once : (asked : Asked) (e : BrokerException) (x y : List ℕ) → IsSent asked (exception_reply e) x
     → IsSent asked (exception_reply e) y → x ≡ y
@@ -178,7 +180,8 @@ by_once model rules asked operation said x y (WhenNot e a) (WhenDone u f b) =
     let same : NoImplement ≡ Done u = sym e ∙ f in absurd (cc)
 by_once model rules asked operation said x y (WhenNot e a) (WhenRaised n u f b) =
     let same : NoImplement ≡ Raised n u = sym e ∙ f in absurd (cc)
-by_once model rules asked operation said x y (WhenNot e a) (WhenNot f b) = exception_once asked raised.NoImplement x y a b
+by_once model rules asked operation said x y (WhenNot e a) (WhenNot f b) =
+    exception_once asked raised.NoImplement x y a b
 
 -- ---- requests
 
@@ -211,10 +214,12 @@ request_once served rules asked says x y a b =
 
 -- ---- items
 
-located_once : (served : Served) (sought : Sought) (x y : List ℕ) → IsLocated served sought x → IsLocated served sought y
+located_once : (served : Served) (sought : Sought) (x y : List ℕ) → IsLocated served sought x
+    → IsLocated served sought y
     → x ≡ y
 located_once served sought x y a b =
-    written_once sought.order 4 21 (here_tree sought.id (here_number (is_some (object_with served.objects sought.key)))) None
+    written_once sought.order 4 21 (here_tree sought.id (here_number (is_some (object_with served.objects sought.key))))
+    None
     x y (λ given e. absurd (not_given given e)) a.written b.written
 
 item_answered_once : (served : Served) → IsGraph served.model.graph → (says : Call → Said) (item : Item) (x y : List ℕ)
@@ -231,7 +236,8 @@ item_moved_once : {S : Type 0} (acting : Acting S) (served : Served) → IsGraph
     (before x y : S) → MovesItem acting served item before x → MovesItem acting served item before y → x ≡ y
 item_moved_once acting served rules None before x y a b = a ∙ sym b
 item_moved_once acting served rules (Some (Asks asked)) before x y a b =
-    a.now ∙ ap (state_after acting before) (finds_once served rules asked a.finding b.finding a.finds b.finds) ∙ sym b.now
+    a.now ∙ ap (state_after acting before) (finds_once served rules asked a.finding b.finding a.finds b.finds)
+    ∙ sym b.now
 item_moved_once acting served rules (Some (Answers answered)) before x y a b = a ∙ sym b
 item_moved_once acting served rules (Some (Cancels id)) before x y a b = a ∙ sym b
 item_moved_once acting served rules (Some (Seeks sought)) before x y a b = a ∙ sym b
@@ -270,14 +276,16 @@ pub serves_once : {S : Type 0} (acting : Acting S) (served : Served) → IsGraph
     → Serves acting served raws before y d t → IsSame x y c d s t
 serves_once acting served rules [] before x y c d s t (a0, a1, a2) (b0, b1, b2) =
     record { answer = a0 ∙ sym b0; closing = a1 ∙ sym b1; state = a2 ∙ sym b2 }
-serves_once acting served rules (raw ∷ more) before x y c d s t (true, s1, f, a, (a0, a1, a2)) (true, t1, g, b, (b0, b1, b2)) =
+serves_once acting served rules (raw ∷ more) before x y c d s t (true, s1, f, a, (a0, a1, a2))
+    (true, t1, g, b, (b0, b1, b2)) =
     let one = raw_once acting served rules raw before f g true true s1 t1 a b in
     record { answer = a0 ∙ one.answer ∙ sym b0; closing = a1 ∙ sym b1; state = a2 ∙ one.state ∙ sym b2 }
 serves_once acting served rules (raw ∷ more) before x y c d s t (true, s1, f, a, done) (false, t1, g, b, further) =
     let one = raw_once acting served rules raw before f g true false s1 t1 a b in true_false one.closing
 serves_once acting served rules (raw ∷ more) before x y c d s t (false, s1, f, a, further) (true, t1, g, b, done) =
     let one = raw_once acting served rules raw before f g false true s1 t1 a b in true_false (sym one.closing)
-serves_once {S} acting served rules (raw ∷ more) before x y c d s t (false, s1, f, a, (o, a0, ar)) (false, t1, g, b, (p, b0, br)) =
+serves_once {S} acting served rules (raw ∷ more) before x y c d s t (false, s1, f, a, (o, a0, ar))
+    (false, t1, g, b, (p, b0, br)) =
     let one = raw_once acting served rules raw before f g false false s1 t1 a b in
     let rest = serves_once acting served rules more t1 o p c d s t
     (subst (λ (u : S). Serves acting served more u o c s) one.state ar) br in

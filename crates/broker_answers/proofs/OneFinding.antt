@@ -31,7 +31,8 @@ not_both x a e f = let same : None ≡ Some a = sym e ∙ f in absurd (cc)
 read_once : (graph : List Node) → IsGraph graph → (asked : Asked) (node : ℕ) (a b : List ℕ) → IsRead graph asked node a
     → IsRead graph asked node b → a ≡ b
 read_once graph rules asked node a b x y =
-    (means_once graph (graph_fits_words graph rules) (reading asked.order) 64 node asked.body_at a b x.front y.front x.rest y.rest
+    (means_once graph (graph_fits_words graph rules) (reading asked.order) 64 node asked.body_at a b x.front y.front
+    x.rest y.rest
     x.means y.means (sym x.body_is ∙ y.body_is)).0
 
 counted_once : (a b : List ℕ) → counted a ≡ counted b → a ≡ b
@@ -51,7 +52,8 @@ type_once interface asked f g (inl a) (inr b) = absurd (b.unread (counted a.id) 
 type_once interface asked f g (inr a) (inl b) = absurd (a.unread (counted b.id) b.read)
 type_once interface asked f g (inr a) (inr b) = a.finding_is ∙ sym b.finding_is
 
-call_once : (graph : List Node) → IsGraph graph → (object number : ℕ) (operation : Operation) (asked : Asked) (f g : Finding)
+call_once : (graph : List Node) → IsGraph graph
+    → (object number : ℕ) (operation : Operation) (asked : Asked) (f g : Finding)
     → IsCallAsked graph object number operation asked f → IsCallAsked graph object number operation asked g → f ≡ g
 call_once graph rules object number operation asked f g (inl a) (inl b) =
     a.finding_is
@@ -63,7 +65,8 @@ call_once graph rules object number operation asked f g (inr a) (inl b) = absurd
 call_once graph rules object number operation asked f g (inr a) (inr b) = a.finding_is ∙ sym b.finding_is
 
 has_once : (served : Served) → IsGraph served.model.graph → (object : ℕ) (interface : Interface) (asked : Asked)
-    (f g : Finding) → HasOperation served object interface asked f → HasOperation served object interface asked g → f ≡ g
+    (f g : Finding) → HasOperation served object interface asked f → HasOperation served object interface asked g
+    → f ≡ g
 has_once served rules object interface asked f g a b =
     let number : a.number ≡ b.number = one_some _ a.number b.number a.is.named b.is.named in
     let there : slice_get served.model.operations b.number ≡ Some a.operation =
@@ -82,7 +85,8 @@ own_once served rules object interface asked f g (inr a) (inr b) = has_once serv
 
 -- by the operation of a request for an object
 data Case (served : Served) (asked : Asked) (object : ℕ) (interface : Interface) (finding : Finding) : Type 0 where
-  OfType : asked.operation ≡ is_a_name → IsTypeAsked interface asked finding → Case served asked object interface finding
+  OfType : asked.operation ≡ is_a_name → IsTypeAsked interface asked finding
+      → Case served asked object interface finding
   Gone : asked.operation ≡ non_existent_name → finding ≡ Tells false → Case served asked object interface finding
   Own : IsOwn asked → IsOwnAsked served object interface asked finding → Case served asked object interface finding
 

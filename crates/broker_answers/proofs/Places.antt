@@ -18,7 +18,8 @@ gets_by_name model name number = by (slice_get model.operations number) where
 getter_by_name : (model : Parts) (name : List ℕ) (number : ℕ)
     → has_name (codes "_get_" ++ name) (slice_get model.operations number) ≡ true → is_getter model number ≡ true
 getter_by_name model name number = by (slice_get model.operations number) where
-  by : (o : Option Operation) → has_name (codes "_get_" ++ name) o ≡ true → option_map_or (λ operation. is_some (got_by operation)) o false ≡ true
+  by : (o : Option Operation) → has_name (codes "_get_" ++ name) o ≡ true
+      → option_map_or (λ operation. is_some (got_by operation)) o false ≡ true
   by None e = absurd (false_isnt e)
   by (Some operation) e = ap is_some (got_is operation name e)
 
@@ -49,7 +50,8 @@ one_name model n k x y (getter ∷ more) ex ey =
     by (is_getter_of model x getter) (is_getter_of model y getter) refl refl ex ey (one_name model (suc n) k x y more)
   where
     by : (b c : Bool) → is_getter_of model x getter ≡ b → is_getter_of model y getter ≡ c
-        → cond b (Some n) (place_from model (suc n) x more) ≡ Some k → cond c (Some n) (place_from model (suc n) y more) ≡ Some k
+        → cond b (Some n) (place_from model (suc n) x more) ≡ Some k
+        → cond c (Some n) (place_from model (suc n) y more) ≡ Some k
         → (place_from model (suc n) x more ≡ Some k → place_from model (suc n) y more ≡ Some k → x ≡ y) → x ≡ y
     by true true tx ty ex ey further = one_gotten x y (slice_get model.operations getter) tx ty
     by true false tx ty ex ey further =
@@ -67,10 +69,12 @@ pub record IsGot (model : Parts) (n : ℕ) (name : List ℕ) (getter : ℕ) (get
   pub there : slice_get getters k ≡ Some getter
 
 pub got_there : (model : Parts) (n : ℕ) (name numbers : List ℕ) (getter : ℕ)
-    → first_named model (codes "_get_" ++ name) numbers ≡ Some getter → IsGot model n name getter (getters_of model numbers)
+    → first_named model (codes "_get_" ++ name) numbers ≡ Some getter
+    → IsGot model n name getter (getters_of model numbers)
 got_there model n name [] getter e = absurd (none_isnt getter e)
 got_there model n name (m ∷ more) getter e =
-    by (has_name (codes "_get_" ++ name) (slice_get model.operations m)) refl e (λ n. got_there model n name more getter)
+    by (has_name (codes "_get_" ++ name) (slice_get model.operations m)) refl e
+    (λ n. got_there model n name more getter)
   where
     rest : List ℕ
     rest = getters_of model more
@@ -80,7 +84,8 @@ got_there model n name (m ∷ more) getter e =
     with_first b is got = subst (λ v. IsGot model n name getter (cond v (m ∷ rest) rest)) (sym is) got
 
     passed : (b : Bool) → is_getter_of model name m ≡ false
-        → IsGot model (suc n) name getter rest → IsGot model n name getter rest → IsGot model n name getter (cond b (m ∷ rest) rest)
+        → IsGot model (suc n) name getter rest → IsGot model n name getter rest
+        → IsGot model n name getter (cond b (m ∷ rest) rest)
     passed true other next same = record {
       k = suc next.k;
       place = ap (λ v. cond v (Some n) (place_from model (suc n) name rest)) other ∙ next.place ∙ ap Some (omega arith);
@@ -94,7 +99,8 @@ got_there model n name (m ∷ more) getter e =
         → IsGot model n name getter (getters_of model (m ∷ more))
     by true is e further = with_first true (getter_by_name model name m is) (record {
       k = 0;
-      place = ap (λ v. cond v (Some n) (place_from model (suc n) name rest)) (gets_by_name model name m ∙ is) ∙ ap Some (omega arith);
+      place = ap (λ v. cond v (Some n) (place_from model (suc n) name rest)) (gets_by_name model name m ∙ is)
+          ∙ ap Some (omega arith);
       there = e;
     })
     by false is e further =

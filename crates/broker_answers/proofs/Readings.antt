@@ -27,7 +27,8 @@ read_is graph asked node n tape means = record {
 }
 
 pub unread : (graph : List Node) (asked : Asked) (node : ℕ)
-    → ((tape front rest : List ℕ) → asked.body ≡ front ++ rest → Means graph (reading asked.order) 64 node asked.body_at tape front → ⊥)
+    → ((tape front rest : List ℕ) → asked.body ≡ front ++ rest
+    → Means graph (reading asked.order) 64 node asked.body_at tape front → ⊥)
     → IsUnread graph asked node
 unread graph asked node none = λ tape r. none tape r.front r.rest r.body_is r.means
 
@@ -37,7 +38,8 @@ pub id_named : (table : TableParts) → table ≡ giop_table → IsNamed table.m
 id_named table e = subst (λ (t : TableParts). IsNamed t.model.names 26) (sym e) (named 26 refl)
 
 -- a node that is named there is so in the table
-pub giop_named : (table : TableParts) (node : ℕ) → table ≡ giop_table → has_name node ≡ true → IsNamed table.model.names node
+pub giop_named : (table : TableParts) (node : ℕ) → table ≡ giop_table → has_name node ≡ true
+    → IsNamed table.model.names node
 giop_named table node e h = subst (λ (t : TableParts). IsNamed t.model.names node) (sym e) (named node h)
 
 -- a text, counted

@@ -14,7 +14,8 @@ pub is_answered : (served : Served) (asked : Asked) (finding : Finding) (says : 
 is_answered served asked finding says octets finds a = record { finding = finding; finds = finds; answer = a.answer }
 
 pub is_moved : {S : Type 0} (acting : Acting S) (served : Served) (asked : Asked) (finding : Finding) (before after : S)
-    → Finds served asked finding → after ≡ state_after acting before finding → MovesRequest acting served asked before after
+    → Finds served asked finding → after ≡ state_after acting before finding
+    → MovesRequest acting served asked before after
 is_moved acting served asked finding before after finds now = record { finding = finding; finds = finds; now = now }
 
 pub may_move : {S : Type 0} (acting : Acting S) (served : Served) (asked : Asked) (finding : Finding) (before after : S)

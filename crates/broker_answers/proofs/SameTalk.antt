@@ -28,7 +28,8 @@ some_is a b e = cc
 none_isnt : {A : Type 0} (a : A) → None ≡ Some a → ⊥
 none_isnt a e = absurd (cc)
 
-none_here : {C D : Type 0} (Same : C → D → Type 0) (c : ℕ) (x : ℕ × C) (xs : List (ℕ × C)) (y : ℕ × D) (ys : List (ℕ × D))
+none_here : {C D : Type 0} (Same : C → D → Type 0) (c : ℕ) (x : ℕ × C) (xs : List (ℕ × C)) (y : ℕ × D)
+    (ys : List (ℕ × D))
     → x.0 ≡ y.0 → at c (x ∷ xs) ≡ None → (at c xs ≡ None → at c ys ≡ None) → (b : Bool) → nat_eq c x.0 ≡ b
     → at c (y ∷ ys) ≡ None
 none_here Same c x xs y ys number e further true t =
@@ -48,7 +49,8 @@ at_none Same c (x ∷ xs) (y ∷ ys) same e =
 abbrev IsAt : {C D : Type 0} → (C → D → Type 0) → ℕ → List (ℕ × D) → C → Type 0
 IsAt {C} {D} Same c ys k = (l : D) × (at c ys ≡ Some l) × Same k l
 
-some_here : {C D : Type 0} (Same : C → D → Type 0) (c : ℕ) (x : ℕ × C) (xs : List (ℕ × C)) (y : ℕ × D) (ys : List (ℕ × D))
+some_here : {C D : Type 0} (Same : C → D → Type 0) (c : ℕ) (x : ℕ × C) (xs : List (ℕ × C)) (y : ℕ × D)
+    (ys : List (ℕ × D))
     (k : C) → x.0 ≡ y.0 → Same x.1 y.1 → at c (x ∷ xs) ≡ Some k → (at c xs ≡ Some k → IsAt Same c ys k) → (b : Bool)
     → nat_eq c x.0 ≡ b → IsAt Same c (y ∷ ys) k
 some_here Same c x xs y ys k number same e further true t = (
@@ -114,12 +116,14 @@ pub record Matches {S C D : Type 0} (Same : C → D → Type 0) (w : World S C) 
   pub there : AreSame Same w.there v.there
 
 -- what happens to a world happens to one that matches it, and leads to one that does
-abbrev IsMatched : {S C D : Type 0} → (C → D → Type 0) → Keeping D → Serving S → Moving S → World S D → Event → List ℕ → World S C → Type 0
+abbrev IsMatched : {S C D : Type 0} → (C → D → Type 0) → Keeping D → Serving S → Moving S → World S D → Event → List ℕ
+    → World S C → Type 0
 IsMatched {S} {C} {D} Same other Serves Moves v event answer w =
     (after : World S D) × Happens other Serves Moves v event answer after × Matches Same w after
 
 opens_same : {S C D : Type 0} (one : Keeping C) (other : Keeping D) (Same : C → D → Type 0) → Alike one other Same
-    → (Serves : Serving S) (Moves : Moving S) (w : World S C) (v : World S D) (c : ℕ) (answer : List ℕ) (after : World S C)
+    → (Serves : Serving S) (Moves : Moving S) (w : World S C) (v : World S D) (c : ℕ) (answer : List ℕ)
+    (after : World S C)
     → Matches Same w v → Opens one w c answer after → IsMatched Same other Serves Moves v (Begins c) answer after
 opens_same one other Same alike Serves Moves w v c answer after m h = (
   world v.servant (v.there ++ (c, other.fresh) ∷ []),
@@ -142,7 +146,8 @@ kept_same one other Same alike true k l same = alike.shut
 kept_same one other Same alike false k l same = same
 
 answers_same : {S C D : Type 0} (one : Keeping C) (other : Keeping D) (Same : C → D → Type 0) → Alike one other Same
-    → (Serves : Serving S) (Moves : Moving S) (w : World S C) (v : World S D) (c : ℕ) (octets answer : List ℕ) (after : World S C)
+    → (Serves : Serving S) (Moves : Moving S) (w : World S C) (v : World S D) (c : ℕ) (octets answer : List ℕ)
+    (after : World S C)
     → Matches Same w v → Answers one Serves w c octets answer after
     → IsMatched Same other Serves Moves v (Brings c octets) answer after
 answers_same one other Same alike Serves Moves w v c octets answer after m h =
@@ -171,7 +176,8 @@ answers_same one other Same alike Serves Moves w v c octets answer after m h =
     )
 
 abandons_same : {S C D : Type 0} (one : Keeping C) (other : Keeping D) (Same : C → D → Type 0) → Alike one other Same
-    → (Serves : Serving S) (Moves : Moving S) (w : World S C) (v : World S D) (c : ℕ) (octets : List ℕ) (j : ℕ) (answer : List ℕ)
+    → (Serves : Serving S) (Moves : Moving S) (w : World S C) (v : World S D) (c : ℕ) (octets : List ℕ) (j : ℕ)
+    (answer : List ℕ)
     (after : World S C) → Matches Same w v → Abandons one Moves w c octets j answer after
     → IsMatched Same other Serves Moves v (GivesUp c octets j) answer after
 abandons_same one other Same alike Serves Moves w v c octets j answer after m h =
@@ -195,7 +201,8 @@ abandons_same one other Same alike Serves Moves w v c octets j answer after m h 
     )
 
 leaves_same : {S C D : Type 0} (other : Keeping D) (Same : C → D → Type 0)
-    → (Serves : Serving S) (Moves : Moving S) (w : World S C) (v : World S D) (c : ℕ) (answer : List ℕ) (after : World S C)
+    → (Serves : Serving S) (Moves : Moving S) (w : World S C) (v : World S D) (c : ℕ) (answer : List ℕ)
+    (after : World S C)
     → Matches Same w v → Leaves w c answer after → IsMatched Same other Serves Moves v (Ends c) answer after
 leaves_same other Same Serves Moves w v c answer after m h =
     let l = at_some Same c w.there v.there h.kept m.there h.there in (
@@ -293,7 +300,8 @@ without_length c (x ∷ xs) = by (nat_eq c x.0) (without_length c xs) where
   by true e = omega arith
   by false e = omega (arith, e)
 
-happens_few : {S C : Type 0} (keeping : Keeping C) (Serves : Serving S) (Moves : Moving S) (w : World S C) (event : Event)
+happens_few : {S C : Type 0} (keeping : Keeping C) (Serves : Serving S) (Moves : Moving S) (w : World S C)
+    (event : Event)
     (answer : List ℕ) (after : World S C) → Happens keeping Serves Moves w event answer after → length w.there ≤ 64
     → length after.there ≤ 64
 happens_few keeping Serves Moves w (Begins c) answer after h few =

@@ -39,12 +39,14 @@ use Rattle.broker_answers.proofs.Existence.{encodes_there, room}
 -- ---- one message is written
 
 body_once : (order : Order) (body : Option Given) (p : ℕ) (x y : List ℕ)
-    → ((given : Given) → body ≡ Some given → IsGraph given.graph) → IsBody order body p x → IsBody order body p y → x ≡ y
+    → ((given : Given) → body ≡ Some given → IsGraph given.graph) → IsBody order body p x → IsBody order body p y
+    → x ≡ y
 body_once order None p x y rules a b = a ∙ sym b
 body_once order (Some given) p x y rules a b =
     a.octets_are
     ∙ ap (λ (octets : List ℕ). body_gap p given.tape ++ octets)
-    (tape_written_once given.graph (rules given refl) order 64 given.node (body_after p) given.tape a.body b.body a.is b.is)
+    (tape_written_once given.graph (rules given refl) order 64 given.node (body_after p) given.tape a.body b.body a.is
+    b.is)
     ∙ sym b.octets_are
 
 header_once : (order : Order) (node : ℕ) (value : Tree) (x y : List ℕ) → Holds (writing order) node 12 value x
@@ -72,12 +74,14 @@ pub unsendable : (fault : GiopFault) (asked : Asked) (reply : Reply) → (fault 
     → IsUnsendable asked reply
 unsendable faults.NoMemory asked reply other rules h = absurd (other refl)
 unsendable faults.TooLong asked reply other rules h = λ octets s.
-    let same = written_once asked.order 1 19 (reply_tree asked.id (number_of reply.status) NoTree) reply.body octets h.octets
+    let same = written_once asked.order 1 19 (reply_tree asked.id (number_of reply.status) NoTree) reply.body octets
+    h.octets
     rules s.written h.is in
     omega (arith, s.short, h.long, ap length same)
 unsendable faults.BadHead asked reply other rules h = λ octets s. h s.written.header s.written.header_is
 unsendable faults.BadBody asked reply other rules h = λ octets s.
-    let same = header_once asked.order 19 (reply_tree asked.id (number_of reply.status) NoTree) s.written.header h.header
+    let same = header_once asked.order 19 (reply_tree asked.id (number_of reply.status) NoTree) s.written.header
+    h.header
     s.written.header_is h.header_is in
     h.none s.written.behind
     (subst (λ (x : List ℕ). IsBody asked.order reply.body (12 + length x) s.written.behind) same s.written.body_is)
@@ -173,12 +177,18 @@ letters (o ∷ more) e =
     ((ltb-true 0 o q.0, ltb-true o 256 q.1), letters more p.1)
 
 id_text : (e : BrokerException) → IsText 0 (exception_id e)
-id_text raised.ObjectNotExist = record { in_bound = tt; short = omega arith; octets = letters (exception_id raised.ObjectNotExist) refl }
-id_text raised.BadOperation = record { in_bound = tt; short = omega arith; octets = letters (exception_id raised.BadOperation) refl }
-id_text raised.Marshal = record { in_bound = tt; short = omega arith; octets = letters (exception_id raised.Marshal) refl }
-id_text raised.NoImplement = record { in_bound = tt; short = omega arith; octets = letters (exception_id raised.NoImplement) refl }
-id_text raised.Unknown = record { in_bound = tt; short = omega arith; octets = letters (exception_id raised.Unknown) refl }
-id_text raised.Internal = record { in_bound = tt; short = omega arith; octets = letters (exception_id raised.Internal) refl }
+id_text raised.ObjectNotExist =
+    record { in_bound = tt; short = omega arith; octets = letters (exception_id raised.ObjectNotExist) refl }
+id_text raised.BadOperation =
+    record { in_bound = tt; short = omega arith; octets = letters (exception_id raised.BadOperation) refl }
+id_text raised.Marshal =
+    record { in_bound = tt; short = omega arith; octets = letters (exception_id raised.Marshal) refl }
+id_text raised.NoImplement =
+    record { in_bound = tt; short = omega arith; octets = letters (exception_id raised.NoImplement) refl }
+id_text raised.Unknown =
+    record { in_bound = tt; short = omega arith; octets = letters (exception_id raised.Unknown) refl }
+id_text raised.Internal =
+    record { in_bound = tt; short = omega arith; octets = letters (exception_id raised.Internal) refl }
 
 abbrev exception_tree : BrokerException → Tree
 exception_tree e =
@@ -202,7 +212,8 @@ id_short raised.NoImplement = omega arith
 id_short raised.Unknown = omega arith
 id_short raised.Internal = omega arith
 
-exception_tape_is : (e : BrokerException) → exception_tape e ≡ tape_of giop_nodes (node_at giop_nodes 23) (exception_tree e)
+exception_tape_is : (e : BrokerException) → exception_tape e
+    ≡ tape_of giop_nodes (node_at giop_nodes 23) (exception_tree e)
 exception_tape_is e =
     append_assoc (counted (exception_id e)) (word Big Four (pos 0)) (word Big Four (pos (completion e)))
     ∙ ap (λ (w : List ℕ). counted (exception_id e) ++ (word Big Four (pos 0) ++ w))
@@ -223,7 +234,8 @@ truth_below false = omega arith
 pub truth_there : (asked : Asked) (b : Bool) → asked.id < 2 ^ 32 → IsUnsendable asked (truth_reply b) → ⊥
 truth_there asked b id none =
     let s = body_there asked NoException giop_nodes 27 (Items (AndTree (Number (pos (truth_number b))) NoTree))
-    (word Big One (pos (truth_number b))) id (truth_below b, tt) (sym (append-nil (word Big One (pos (truth_number b)))))
+    (word Big One (pos (truth_number b))) id (truth_below b, tt)
+    (sym (append-nil (word Big One (pos (truth_number b)))))
     (omega arith) in
     none s.0 s.1
 
@@ -246,9 +258,11 @@ body_unsendable fault asked status body other rules h =
     unsendable fault asked (record { status = status; body = Some body }) other
     (λ there e. subst (λ (g : Given). IsGraph g.graph) (some_given body there e) rules) h
 
-pub own_unsendable : (fault : GiopFault) (asked : Asked) (status : ReplyStatus) (table : TableParts) (node : ℕ) (tape : List ℕ)
+pub own_unsendable : (fault : GiopFault) (asked : Asked) (status : ReplyStatus) (table : TableParts) (node : ℕ)
+    (tape : List ℕ)
     → (fault ≡ faults.NoMemory → ⊥) → table ≡ giop_table
-    → IsNotWritten fault asked.order 1 19 (reply_tree asked.id (number_of status) NoTree) (Some (given table.model.graph node tape))
+    → IsNotWritten fault asked.order 1 19 (reply_tree asked.id (number_of status) NoTree)
+    (Some (given table.model.graph node tape))
     → IsUnsendable asked (reply_of status giop_nodes node tape)
 own_unsendable fault asked status table node tape other e h =
     body_unsendable fault asked status (given giop_nodes node tape) other giop_is_graph
@@ -268,7 +282,8 @@ isnt_refused : (fault : GiopFault) (order : Order) (kind node : ℕ) (value : Tr
     → IsNotWritten fault order kind node value None → ⊥
 isnt_refused faults.NoMemory order kind node value octets other written short h = other refl
 isnt_refused faults.TooLong order kind node value octets other written short h =
-    let same = written_once order kind node value None octets h.octets (λ there e. absurd (none_given there e)) written h.is in
+    let same = written_once order kind node value None octets h.octets (λ there e. absurd (none_given there e)) written
+    h.is in
     omega (arith, short, h.long, ap length same)
 isnt_refused faults.BadHead order kind node value octets other written short h = h written.header written.header_is
 isnt_refused faults.BadBody order kind node value octets other written short h = h.none [] refl
@@ -286,7 +301,8 @@ locate_isnt_refused fault order id here other below h =
     let value = here_tree id (here_number here) in
     let fits : Fits giop_nodes (node_at giop_nodes 21) value 64 = (below, (here_below here, tt)) in
     let s = encodes_there order giop_nodes (node_at giop_nodes 21) value 64 fits 12 in
-    isnt_refused fault order 4 21 value (head_octets order 4 (length s.octets + length {A = ℕ} []) ++ (s.octets ++ [])) other
+    isnt_refused fault order 4 21 value (head_octets order 4 (length s.octets + length {A = ℕ} []) ++ (s.octets ++ []))
+    other
     (record {
       header = s.octets;
       behind = [];

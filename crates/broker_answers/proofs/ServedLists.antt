@@ -21,19 +21,21 @@ pub serves_then : {S : Type 0} (acting : Acting S) (served : Served) (raws other
 serves_then {S} acting served [] others before between after octets more closed (none, goes_on, same) further =
     subst (λ (o : List ℕ). Serves acting served others before (o ++ more) closed after) (sym none)
     (subst (λ (s : S). Serves acting served others s more closed after) same further)
-serves_then acting served (r ∷ rs) others before between after octets more closed (true, s, first, head, (is, goes_on, same)) further =
+serves_then acting served (r ∷ rs) others before between after octets more closed
+    (true, s, first, head, (is, goes_on, same)) further =
     absurd (cc)
-serves_then acting served (r ∷ rs) others before between after octets more closed (false, s, first, head, (ours, is, rest)) further = (
-  false,
-  s,
-  first,
-  head,
-  (
-    ours ++ more,
-    ap (λ (o : List ℕ). o ++ more) is ∙ append_assoc first ours more,
-    serves_then acting served rs others s between after ours more closed rest further,
-  ),
-)
+serves_then acting served (r ∷ rs) others before between after octets more closed
+    (false, s, first, head, (ours, is, rest)) further = (
+      false,
+      s,
+      first,
+      head,
+      (
+        ours ++ more,
+        ap (λ (o : List ℕ). o ++ more) is ∙ append_assoc first ours more,
+        serves_then acting served rs others s between after ours more closed rest further,
+      ),
+    )
 
 -- what stands behind one that closes isn't looked at
 pub serves_closed : {S : Type 0} (acting : Acting S) (served : Served) (raws more : List Raw) (before after : S)
@@ -78,7 +80,8 @@ pub moves_then : {S : Type 0} (acting : Acting S) (served : Served) (raws others
     → Moves acting served (raws ++ others) before after
 moves_then {S} acting served [] others before between after octets (none, goes_on, same) further =
     subst (λ (s : S). Moves acting served others s after) same further
-moves_then acting served (r ∷ rs) others before between after octets (true, s, first, head, (is, goes_on, same)) further =
+moves_then acting served (r ∷ rs) others before between after octets (true, s, first, head, (is, goes_on, same))
+    further =
     absurd (cc)
 moves_then acting served (r ∷ rs) others before between after octets (false, s, first, head, (ours, is, rest)) further = (
   head.item,

@@ -9,7 +9,8 @@ use Rattle.broker_answers.specs.Objects.{Served}
 use Rattle.broker_answers.specs.Serving.{AnswersItem, MovesItem, ServesRaw, closes, message_error}
 use Rattle.broker_answers.specs.Answering.{MayMoveRaw}
 
-pub served_raw : {S : Type 0} (acting : Acting S) (served : Served) (message : List ℕ) (content : Content) (before after : S)
+pub served_raw : {S : Type 0} (acting : Acting S) (served : Served) (message : List ℕ) (content : Content)
+    (before after : S)
     (octets : List ℕ) (closed : Bool) → Says message content → MovesItem acting served (Some content) before after
     → AnswersItem served (acting.says before) (Some content) octets → closed ≡ closes (Some content)
     → ServesRaw acting served (Some message) before octets closed after
@@ -20,7 +21,8 @@ served_raw acting served message content before after octets closed says moves a
   closed_is = closed_is;
 }
 
-pub no_message : {S : Type 0} (acting : Acting S) (served : Served) (message : List ℕ) (before after : S) (octets : List ℕ)
+pub no_message : {S : Type 0} (acting : Acting S) (served : Served) (message : List ℕ) (before after : S)
+    (octets : List ℕ)
     (closed : Bool) → ((content : Content) → Says message content → ⊥) → octets ≡ message_error → closed ≡ true
     → after ≡ before → ServesRaw acting served (Some message) before octets closed after
 no_message acting served message before after octets closed none answers closed_is same = record {
@@ -31,7 +33,8 @@ no_message acting served message before after octets closed none answers closed_
 }
 
 -- a reply, which is none for this side
-pub refused_reply : {S E : Type 0} (acting : Acting S) (served : Served) (message : List ℕ) (answered : Answered) (before : S)
+pub refused_reply : {S E : Type 0} (acting : Acting S) (served : Served) (message : List ℕ) (answered : Answered)
+    (before : S)
     (r : Result Answer E) → Says message (Answers answered) → IfOk r (λ a. a.octets.items ≡ message_error)
     → IfOk r (λ a. a.closes ≡ true)
     → IfOk r (λ a. ServesRaw acting served (Some message) before a.octets.items a.closes before)
@@ -42,7 +45,8 @@ refused_reply acting served message answered before (Err e) says octets closes =
 -- what is given up, and what closes the connection, have no answer
 pub unanswered : {S : Type 0} (acting : Acting S) (served : Served) (octets : List ℕ) (message : Message) (before : S)
     (answer : List ℕ) (closed : Bool)
-    → ((id : ℕ) × (message ≡ messages.Cancel id)) ⊎ ((message ≡ messages.CloseConnection) ⊎ (message ≡ messages.MessageError))
+    → ((id : ℕ) × (message ≡ messages.Cancel id))
+    ⊎ ((message ≡ messages.CloseConnection) ⊎ (message ≡ messages.MessageError))
     → Says octets (content_of message) → answer ≡ [] → closed ≡ closes (Some (content_of message))
     → ServesRaw acting served (Some octets) before answer closed before
 unanswered acting served octets message before answer closed (inl (id, is)) says none shut =
@@ -68,7 +72,8 @@ broken acting served before after octets closed answers closed_is same = record 
   closed_is = closed_is;
 }
 
-pub may_move_raw : {S : Type 0} (acting : Acting S) (served : Served) (message : List ℕ) (content : Content) (before after : S)
+pub may_move_raw : {S : Type 0} (acting : Acting S) (served : Served) (message : List ℕ) (content : Content)
+    (before after : S)
     → Says message content → (after ≡ before) ⊎ MovesItem acting served (Some content) before after
     → MayMoveRaw acting served (Some message) before after
 may_move_raw acting served message content before after says (inl same) = inl same

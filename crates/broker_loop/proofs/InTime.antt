@@ -47,10 +47,12 @@ module _ (idle : ℕ) where
   -- what happens to one connection alone
   pub still_in_time : (said said' : Log) (there there' : List (ℕ × Stream)) (c : ℕ) (slots : List Slotted)
       → All (λ x. x.number ≢ c) slots → ((n : ℕ) → n ≢ c → hearings n said' ≡ hearings n said)
-      → ((n : ℕ) → n ≢ c → at n there' ≡ at n there) → AreInTime idle said there slots → AreInTime idle said' there' slots
+      → ((n : ℕ) → n ≢ c → at n there' ≡ at n there) → AreInTime idle said there slots
+      → AreInTime idle said' there' slots
   still_in_time said said' there there' c slots apart same kept h = λ some.
       all_both (λ x. x.number ≢ c) (IsTimedSo idle true said there) (IsTimedSo idle true said' there') slots
-      (λ x differs d. timed_other idle true said said' there there' x d (same x.number differs) (kept x.number differs)) apart (h some)
+      (λ x differs d. timed_other idle true said said' there there' x d (same x.number differs) (kept x.number differs))
+      apart (h some)
 
   -- the log with an event of a connection, for another
   pub same_hearings : (said : Log) (e : Event) (a : List ℕ) (c : ℕ) → connection_of e ≡ c → (n : ℕ) → n ≢ c
@@ -58,25 +60,32 @@ module _ (idle : ℕ) where
   same_hearings said e a c is n differs = hearings_other n said e a (λ same. differs (sym same ∙ is))
 
   module _ {S : Type 0} (acting : Acting S) (served : Served) (before : S) where
-    pub begins_in_time : (came : List Ends) (ended : List (ℕ × Gone)) (w w' : World S Stream) (slots : List Slotted) (c : ℕ)
-        (told : Ends) (looks : ℕ) (trace : Option Trace) (a : List ℕ) (said : Log) (g : IsGoing acting served idle before came ended w slots)
+    pub begins_in_time : (came : List Ends) (ended : List (ℕ × Gone)) (w w' : World S Stream) (slots : List Slotted)
+        (c : ℕ)
+        (told : Ends) (looks : ℕ) (trace : Option Trace) (a : List ℕ) (said : Log)
+        (g : IsGoing acting served idle before came ended w slots)
         → c ≡ length came → Opens rests w c a w' → IsNew looks trace → said ≡ g.said ++ (Begins c, a) ∷ []
         → AreInTime idle g.said w.there slots
         → AreInTime idle said w'.there (slots ++ slotted c told trace unwaited [] ∷ [])
     begins_in_time came ended w w' slots c told looks trace a said g number opens new is h = λ some.
         let now : w'.there ≡ w.there ++ (c, rests.fresh) ∷ [] = ap (λ (x : World S Stream). x.there) opens.now in
         let below = all_below acting served idle before g.said came slots g.opened in
-        let apart = All-weaker (λ x. x.number < length came) (λ x. x.number ≢ c) (λ x lt same. omega (arith, lt, number, same)) slots below in
+        let apart = All-weaker (λ x. x.number < length came) (λ x. x.number ≢ c)
+        (λ x lt same. omega (arith, lt, number, same)) slots below in
         let others = still_in_time g.said said w.there w'.there c slots apart
         (λ n differs. ap (hearings n) is ∙ same_hearings g.said (Begins c) a c refl n differs)
         (λ n differs. ap (at n) now ∙ at_more_other n c rests.fresh w.there differs) h in
         let unheard : hearings c said ≡ [] =
-        ap (hearings c) is ∙ hearings_same c g.said (Begins c) a refl ∙ hearings_none (length came) c g.said (omega (arith, number)) g.known in
+        ap (hearings c) is ∙ hearings_same c g.said (Begins c) a refl
+        ∙ hearings_none (length came) c g.said (omega (arith, number)) g.known in
         All-push (IsTimedSo idle true said w'.there) slots (slotted c told trace unwaited []) (others some)
-        (timed_new idle said w'.there c told looks trace unheard new (ap (at c) now ∙ at_split c w.there rests.fresh [] opens.absent))
+        (timed_new idle said w'.there c told looks trace unheard new
+        (ap (at c) now ∙ at_split c w.there rests.fresh [] opens.absent))
 
-    pub leaves_in_time : (w w' : World S Stream) (front : List Slotted) (s : Slotted) (back : List Slotted) (a : List ℕ) (said said' : Log)
-        → All (λ x. x.number ≢ s.number) (front ++ back) → Leaves w s.number a w' → said' ≡ said ++ (Leaving s.number, a) ∷ []
+    pub leaves_in_time : (w w' : World S Stream) (front : List Slotted) (s : Slotted) (back : List Slotted) (a : List ℕ)
+        (said said' : Log)
+        → All (λ x. x.number ≢ s.number) (front ++ back) → Leaves w s.number a w'
+        → said' ≡ said ++ (Leaving s.number, a) ∷ []
         → AreInTime idle said w.there (front ++ back) → AreInTime idle said' w'.there (front ++ back)
     leaves_in_time w w' front s back a said said' apart left is h =
         let now : w'.there ≡ without s.number w.there = ap (λ (x : World S Stream). x.there) left.now in

@@ -13,7 +13,8 @@ set_parts [] at t lt = absurd (omega (arith, lt))
 set_parts (x ∷ xs) zero t lt = refl
 set_parts (x ∷ xs) (suc at) t lt = ap (λ ys. x ∷ ys) (set_parts xs at t (omega (arith, lt)))
 
-pub set_item : {A : Type 0} (items : List A) (at : ℕ) (t d : A) → at < length items → slice_index_or (slice_set items at t) at d ≡ t
+pub set_item : {A : Type 0} (items : List A) (at : ℕ) (t d : A) → at < length items
+    → slice_index_or (slice_set items at t) at d ≡ t
 set_item [] at t d lt = absurd (omega (arith, lt))
 set_item (x ∷ xs) zero t d lt = refl
 set_item (x ∷ xs) (suc at) t d lt = set_item xs at t d (omega (arith, lt))
@@ -36,7 +37,8 @@ take_set [] at t lt = absurd (omega (arith, lt))
 take_set (x ∷ xs) zero t lt = refl
 take_set (x ∷ xs) (suc at) t lt = ap (λ ys. x ∷ ys) (take_set xs at t (omega (arith, lt)))
 
-pub drop_set : {A : Type 0} (items : List A) (at : ℕ) (t : A) → drop (suc at) (slice_set items at t) ≡ drop (suc at) items
+pub drop_set : {A : Type 0} (items : List A) (at : ℕ) (t : A)
+    → drop (suc at) (slice_set items at t) ≡ drop (suc at) items
 drop_set [] zero t = refl
 drop_set [] (suc at) t = refl
 drop_set (x ∷ xs) zero t = refl

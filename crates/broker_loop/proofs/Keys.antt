@@ -38,14 +38,16 @@ pub keys_without : {C : Type 0} (c : ℕ) (there : List (ℕ × C)) (front back 
 keys_without c [] [] back e differs = nil_cons c back e
 keys_without c [] (n ∷ front) back e differs = nil_cons n (front ++ c ∷ back) e
 keys_without {C} c (one ∷ more) [] back e differs =
-    ap (λ (b : Bool). keys (cond b more (one ∷ without c more))) (eq-eqb c one.0 (sym (cons_head one.0 c (keys more) back e)))
+    ap (λ (b : Bool). keys (cond b more (one ∷ without c more)))
+    (eq-eqb c one.0 (sym (cons_head one.0 c (keys more) back e)))
     ∙ cons_tail one.0 c (keys more) back e
 keys_without {C} c (one ∷ more) (n ∷ front) back e differs =
     let is = cons_head one.0 n (keys more) (front ++ c ∷ back) e in
     let not_c : one.0 ≢ c = λ same. All-head (λ m. m ≢ c) n front differs (sym is ∙ same) in
     ap (λ (b : Bool). keys (cond b more (one ∷ without c more))) (unequal c one.0 (nat_eq c one.0) refl not_c)
     ∙ ap (λ (ns : List ℕ). one.0 ∷ ns)
-    (keys_without c more front back (cons_tail one.0 n (keys more) (front ++ c ∷ back) e) (All-tail (λ m. m ≢ c) n front differs))
+    (keys_without c more front back (cons_tail one.0 n (keys more) (front ++ c ∷ back) e)
+    (All-tail (λ m. m ≢ c) n front differs))
     ∙ ap (λ (m : ℕ). m ∷ front ++ back) is
 
 pub at_absent : {C : Type 0} (c : ℕ) (there : List (ℕ × C)) → All (λ n. n ≢ c) (keys there) → at c there ≡ None
@@ -73,17 +75,20 @@ at_found c [] (k, lt, e) = absurd (omega (arith, lt))
 at_found c (one ∷ more) h = at_first c one more (nat_eq c one.0) refl h (at_found c more)
 
 -- what holds of all holds of the first with the number
-all_at_by : {C : Type 0} (P : ℕ × C → Type 0) (c : ℕ) (one : ℕ × C) (more : List (ℕ × C)) (kept : C) (b : Bool) → nat_eq c one.0 ≡ b
+all_at_by : {C : Type 0} (P : ℕ × C → Type 0) (c : ℕ) (one : ℕ × C) (more : List (ℕ × C)) (kept : C) (b : Bool)
+    → nat_eq c one.0 ≡ b
     → P one → (at c more ≡ Some kept → P (c, kept)) → cond b (Some one.1) (at c more) ≡ Some kept → P (c, kept)
 all_at_by {C} P c one more kept true is p further e =
     subst (λ (x : C). P (c, x)) (some_is one.1 kept e) (subst (λ (n : ℕ). P (n, one.1)) (sym (eqb-true c one.0 is)) p)
 all_at_by P c one more kept false is p further e = further e
 
-pub all_at : {C : Type 0} (P : ℕ × C → Type 0) (c : ℕ) (there : List (ℕ × C)) (kept : C) → All P there → at c there ≡ Some kept
+pub all_at : {C : Type 0} (P : ℕ × C → Type 0) (c : ℕ) (there : List (ℕ × C)) (kept : C) → All P there
+    → at c there ≡ Some kept
     → P (c, kept)
 all_at P c [] kept h e = none_some kept e
 all_at P c (one ∷ more) kept h e =
-    all_at_by P c one more kept (nat_eq c one.0) refl (All-head P one more h) (all_at P c more kept (All-tail P one more h)) e
+    all_at_by P c one more kept (nat_eq c one.0) refl (All-head P one more h)
+    (all_at P c more kept (All-tail P one more h)) e
 
 pub no_keys : {C : Type 0} (there : List (ℕ × C)) → keys there ≡ [] → there ≡ []
 no_keys [] e = refl
@@ -95,7 +100,8 @@ no_items (x ∷ xs) e = absurd (omega (arith, e))
 
 -- ---- what is kept of the others
 
-pub at_put : {C : Type 0} (c : ℕ) (was kept : C) (there : List (ℕ × C)) → at c there ≡ Some was → at c (put c kept there) ≡ Some kept
+pub at_put : {C : Type 0} (c : ℕ) (was kept : C) (there : List (ℕ × C)) → at c there ≡ Some was
+    → at c (put c kept there) ≡ Some kept
 at_put c was kept [] e = none_some was e
 at_put {C} c was kept (one ∷ more) e = by (nat_eq c one.0) refl (at_put c was kept more) where
   by : (b : Bool) → nat_eq c one.0 ≡ b → (at c more ≡ Some was → at c (put c kept more) ≡ Some kept)
@@ -105,7 +111,8 @@ at_put {C} c was kept (one ∷ more) e = by (nat_eq c one.0) refl (at_put c was 
       ap (λ (b : Bool). cond b (Some one.1) (at c (put c kept more))) is
       ∙ further (sym (ap (λ (b : Bool). cond b (Some one.1) (at c more)) is) ∙ e)
 
-pub at_put_other : {C : Type 0} (c d : ℕ) (kept : C) (there : List (ℕ × C)) → c ≢ d → at c (put d kept there) ≡ at c there
+pub at_put_other : {C : Type 0} (c d : ℕ) (kept : C) (there : List (ℕ × C)) → c ≢ d
+    → at c (put d kept there) ≡ at c there
 at_put_other c d kept [] differs = refl
 at_put_other {C} c d kept (one ∷ more) differs = by (nat_eq d one.0) refl (at_put_other c d kept more differs) where
   by : (b : Bool) → nat_eq d one.0 ≡ b → at c (put d kept more) ≡ at c more
@@ -126,7 +133,8 @@ at_without_other {C} c d (one ∷ more) differs = by (nat_eq d one.0) refl (at_w
       (unequal c one.0 (nat_eq c one.0) refl (λ same. differs (sym same ∙ sym (eqb-true d one.0 is)))))
   by false is e = ap (λ (k : Option C). cond (nat_eq c one.0) (Some one.1) k) e
 
-pub at_more_other : {C : Type 0} (c d : ℕ) (kept : C) (there : List (ℕ × C)) → c ≢ d → at c (there ++ (d, kept) ∷ []) ≡ at c there
+pub at_more_other : {C : Type 0} (c d : ℕ) (kept : C) (there : List (ℕ × C)) → c ≢ d
+    → at c (there ++ (d, kept) ∷ []) ≡ at c there
 at_more_other c d kept [] differs =
     ap (λ (b : Bool). cond b (Some kept) None) (unequal c d (nat_eq c d) refl (λ same. differs (sym same)))
 at_more_other {C} c d kept (one ∷ more) differs =

@@ -28,10 +28,12 @@ item_once None None (Some d) x y = absurd y
 item_once None None None x y = refl
 
 module _ {S : Type 0} (acting : Acting S) (served : Served) (rules : IsGraph served.model.graph) where
-  moved_once : (item : Item) (before x y : S) → MovesItem acting served item before x → MovesItem acting served item before y → x ≡ y
+  moved_once : (item : Item) (before x y : S) → MovesItem acting served item before x
+      → MovesItem acting served item before y → x ≡ y
   moved_once None before x y a b = a ∙ sym b
   moved_once (Some (Asks asked)) before x y a b =
-      a.now ∙ ap (state_after acting before) (finds_once served rules asked a.finding b.finding a.finds b.finds) ∙ sym b.now
+      a.now ∙ ap (state_after acting before) (finds_once served rules asked a.finding b.finding a.finds b.finds)
+      ∙ sym b.now
   moved_once (Some (Answering answered)) before x y a b = a ∙ sym b
   moved_once (Some (Cancels id)) before x y a b = a ∙ sym b
   moved_once (Some (Seeks sought)) before x y a b = a ∙ sym b
@@ -43,11 +45,13 @@ module _ {S : Type 0} (acting : Acting S) (served : Served) (rules : IsGraph ser
   onward true M s t x y same once a b = a ∙ same ∙ sym b
   onward false M s t x y same once a b = once x y (subst (λ (u : S). M u x) same a) b
 
-  moves_once : (raws : List Raw) (before x y : S) → Moves acting served raws before x → Moves acting served raws before y → x ≡ y
+  moves_once : (raws : List Raw) (before x y : S) → Moves acting served raws before x
+      → Moves acting served raws before y → x ≡ y
   moves_once [] before x y a b = a ∙ sym b
   moves_once (raw ∷ more) before x y (i, s, a, further) (j, t, b, onwards) =
       let items = item_once raw i j a.is b.is in
-      let states = moved_once j before s t (subst (λ (k : Item). MovesItem acting served k before s) items a.moves) b.moves in
+      let states = moved_once j before s t (subst (λ (k : Item). MovesItem acting served k before s) items a.moves)
+      b.moves in
       onward (closes j) (λ u v. Moves acting served more u v) s t x y states (λ u v p q. moves_once more t u v p q)
       (subst (λ (k : Item). Unless (closes k) (x ≡ s) (Moves acting served more s x)) items further) onwards
 
@@ -56,15 +60,18 @@ module _ {S : Type 0} (acting : Acting S) (served : Served) (rules : IsGraph ser
     brought_to w c octets servant closing kept =
         world servant (put c (kept_or_shut keeping closing (keeping.heard kept octets).kept) w.there)
 
-    happens_once : (w x y : World S C) (e : Event) (a b : List ℕ) → Happens keeping (Serves acting served) (Moves acting served) w e a x
+    happens_once : (w x y : World S C) (e : Event) (a b : List ℕ)
+        → Happens keeping (Serves acting served) (Moves acting served) w e a x
         → Happens keeping (Serves acting served) (Moves acting served) w e b y → (a ≡ b) × (x ≡ y)
     unfolding brought_to
     happens_once w x y (Begins c) a b p q = (p.silent ∙ sym q.silent, p.now ∙ sym q.now)
     happens_once w x y (Ends c) a b p q = (p.silent ∙ sym q.silent, p.now ∙ sym q.now)
     happens_once w x y (Brings c octets) a b p q =
         let kept = one_kept (at c w.there) p.kept q.kept p.there q.there in
-        let same = serves_once acting served rules (keeping.heard q.kept octets).raws w.servant a b p.closes q.closes p.servant q.servant
-        (subst (λ (k : C). Serves acting served (keeping.heard k octets).raws w.servant a p.closes p.servant) kept p.served) q.served in (
+        let same = serves_once acting served rules (keeping.heard q.kept octets).raws w.servant a b p.closes q.closes
+        p.servant q.servant
+        (subst (λ (k : C). Serves acting served (keeping.heard k octets).raws w.servant a p.closes p.servant) kept
+        p.served) q.served in (
           same.answer,
           p.now ∙ ap (λ (s : S). brought_to w c octets s p.closes p.kept) same.state
               ∙ ap (λ (d : Bool). brought_to w c octets q.servant d p.kept) same.closing
@@ -73,7 +80,8 @@ module _ {S : Type 0} (acting : Acting S) (served : Served) (rules : IsGraph ser
     happens_once w x y (GivesUp c octets j) a b p q =
         let kept = one_kept (at c w.there) p.kept q.kept p.there q.there in
         let same = moves_once (take j (keeping.heard q.kept octets).raws) w.servant p.servant q.servant
-        (subst (λ (k : C). Moves acting served (take j (keeping.heard k octets).raws) w.servant p.servant) kept p.moved) q.moved in
+        (subst (λ (k : C). Moves acting served (take j (keeping.heard k octets).raws) w.servant p.servant) kept p.moved)
+        q.moved in
         (p.silent ∙ sym q.silent, p.now ∙ ap (λ (s : S). world s (put c keeping.shut w.there)) same ∙ sym q.now)
 
     follows_once : (said more : Log) (w x y : World S C) → events said ≡ events more

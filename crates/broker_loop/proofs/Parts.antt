@@ -31,8 +31,11 @@ rising_above low (n ∷ more) r =
 -- a number among those that rise stands there once
 pub rising_apart : (low : ℕ) (front : List ℕ) (c : ℕ) (back : List ℕ) → IsRising low (front ++ c ∷ back)
     → All (λ n. n ≢ c) front × All (λ n. n ≢ c) back
-rising_apart low [] c back r =
-    (All-nil (λ n. n ≢ c), All-weaker (λ n. suc c ≤ n) (λ n. n ≢ c) (λ n le e. omega (arith, le, e)) back (rising_above (suc c) back r.1))
+rising_apart low [] c back r = (
+  All-nil (λ n. n ≢ c),
+  All-weaker (λ n. suc c ≤ n) (λ n. n ≢ c) (λ n le e. omega (arith, le, e)) back
+      (rising_above (suc c) back r.1),
+)
 rising_apart low (n ∷ front) c back r =
     let k = rising_apart (suc n) front c back r.1 in
     let above = all_parts (λ m. suc n ≤ m) front c back (rising_above (suc n) (front ++ c ∷ back) r.1) in

@@ -109,7 +109,8 @@ pub trait PolledListener: Listener {
         ensures came { Self.came self.new ≡ Self.came self.old }
         ensures ended { (all : List (ℕ × Gone)) → ended self.old all
             → ended self.new (all
-            ++ (number, gone (Self.Connection.told connection) (Self.Connection.trace connection) (looks self.old) end) ∷ []) }
+            ++ (number, gone (Self.Connection.told connection) (Self.Connection.trace connection) (looks self.old) end)
+            ∷ []) }
         ensures there { there self.new + 1 ≡ there self.old }
         ensures most { most self.new ≡ most self.old }
         ensures port { Self.port self.new ≡ Self.port self.old }

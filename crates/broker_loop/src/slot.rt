@@ -82,7 +82,8 @@ impl<C: Connection> Model for Slot<C> {
 
     ghost invariant = { λ s. s.sent ≤ length s.answer.items };
 
-    ghost view = { λ s. slotted s.number (C.told s.connection) (C.trace s.connection) s.waits (drop s.sent s.answer.items) };
+    ghost view = { λ s. slotted s.number (C.told s.connection) (C.trace s.connection) s.waits
+        (drop s.sent s.answer.items) };
 }
 
 impl<C: Connection> Slot<C> {

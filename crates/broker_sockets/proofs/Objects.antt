@@ -12,7 +12,8 @@ all_of_one P x h zero d within = h
 all_of_one P x h (suc k) d within = let none : ⊥ = omega (arith, within) in absurd none
 
 -- one object whose interface is there can be served
-pub lone_served : (model : Parts) (word : List ℕ) (objects : Objects) (keeper : Keeping) → AreOf model word objects keeper
+pub lone_served : (model : Parts) (word : List ℕ) (objects : Objects) (keeper : Keeping)
+    → AreOf model word objects keeper
     → AreServed model objects
 unfolding IsDistinct
 lone_served model word objects keeper of =

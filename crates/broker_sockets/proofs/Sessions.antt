@@ -13,7 +13,8 @@ use Rattle.broker_sockets.specs.Serving.{HasObject, IsDone, IsDoneTogether, IsFa
 use Rattle.broker_sockets.specs.Visits.{AreServed, Went}
 
 module _ (model : Parts) (word : List ℕ) where
-  pub done_by : (Told : List Went → Type 0) (broker : Broking Keeping) (count : ℕ) (came came' : List Ends) (last : Keeping)
+  pub done_by : (Told : List Went → Type 0) (broker : Broking Keeping) (count : ℕ) (came came' : List Ends)
+      (last : Keeping)
       → IsBrokerOf model word broker
       → AreServed Told (acts says after) broker.served count came broker.world.servant came' last
       → IsDone Told model word count came came'
@@ -21,7 +22,8 @@ module _ (model : Parts) (word : List ℕ) where
     object = made.object;
     is = made.is;
     last = last;
-    served_all = subst (λ (b : Broking Keeping). AreServed Told (acts says after) b.served count came b.world.servant came' last) made.new all;
+    served_all = subst (λ (b : Broking Keeping). AreServed Told (acts says after) b.served count came b.world.servant
+        came' last) made.new all;
   }
 
   pub done_on_ok : (Told : List Went → Type 0) (r : Result (Unit {0}) ServeFault) (broker : Broking Keeping) (count : ℕ)
@@ -31,7 +33,8 @@ module _ (model : Parts) (word : List ℕ) where
   done_on_ok Told (Ok done) broker count came came' last made all = done_by Told broker count came came' last made all
   done_on_ok Told (Err fault) broker count came came' last made all = tt
 
-  together_by : (Told : List (ℕ × Gone) → Type 0) (broker : Broking Keeping) (idle : ℕ) (came : List Ends) (last : Keeping)
+  together_by : (Told : List (ℕ × Gone) → Type 0) (broker : Broking Keeping) (idle : ℕ) (came : List Ends)
+      (last : Keeping)
       → IsBrokerOf model word broker
       → AreServedBy Told (acts says after) broker.served idle broker.world.servant came last
       → IsDoneTogether Told model word idle came
@@ -39,10 +42,12 @@ module _ (model : Parts) (word : List ℕ) where
     object = made.object;
     is = made.is;
     last = last;
-    served_all = subst (λ (b : Broking Keeping). AreServedBy Told (acts says after) b.served idle b.world.servant came last) made.new all;
+    served_all = subst (λ (b : Broking Keeping). AreServedBy Told (acts says after) b.served idle b.world.servant came
+        last) made.new all;
   }
 
-  pub together_on_ok : (Told : List (ℕ × Gone) → Type 0) (r : Result (Unit {0}) ServeFault) (broker : Broking Keeping) (idle : ℕ)
+  pub together_on_ok : (Told : List (ℕ × Gone) → Type 0) (r : Result (Unit {0}) ServeFault) (broker : Broking Keeping)
+      (idle : ℕ)
       (came : List Ends) (last : Keeping) → IsBrokerOf model word broker
       → OnOk r (AreServedBy Told (acts says after) broker.served idle broker.world.servant came last)
       → OnOk r (IsDoneTogether Told model word idle came)
@@ -60,7 +65,8 @@ module _ (model : Parts) (word : List ℕ) where
   later_fault Unwritten later has = has
   later_fault NoMemory later has = tt
 
-  pub faults_have_causes : (r : Result (Unit {0}) ServeFault) → IfErr r (λ fault. IsOfObject fault → ⊥) → HasObject model word
+  pub faults_have_causes : (r : Result (Unit {0}) ServeFault) → IfErr r (λ fault. IsOfObject fault → ⊥)
+      → HasObject model word
       → IfErr r (IsFaultOf model word)
   faults_have_causes (Ok done) later has = tt
   faults_have_causes (Err fault) later has = later_fault fault later has

@@ -42,7 +42,8 @@ pub all_joined : {A : Type 0} (P : A → Type 0) (front : List A) (x : A) (back 
 all_joined P front x back f p b = All-append P front (x ∷ back) f (All-cons P x back p b)
 
 -- two lists with an item at one place
-same_parts : {A : Type 0} (done back front more : List A) (x : A) → done ++ back ≡ front ++ x ∷ more → length done ≡ length front
+same_parts : {A : Type 0} (done back front more : List A) (x : A) → done ++ back ≡ front ++ x ∷ more
+    → length done ≡ length front
     → (done ≡ front) × (back ≡ x ∷ more)
 same_parts [] back [] more x e n = (refl, e)
 same_parts [] back (y ∷ front) more x e n = absurd (omega (arith, n))
@@ -63,21 +64,26 @@ module _ (limits : Limits) where
   -- one more stays
   stays : (front done : List Parted) (one after : Parted) → HaveGone limits front done → IsRead one after
       → HaveGone limits (front ++ one ∷ []) (done ++ after ∷ [])
-  stays [] done one after gone read = subst (λ d. HaveGone limits (one ∷ []) (d ++ after ∷ [])) (sym gone) (after, read, inr ([], refl, refl))
-  stays (x ∷ front) done one after (y, was, inl (over, gone)) read = (y, was, inl (over, stays front done one after gone read))
+  stays [] done one after gone read =
+      subst (λ d. HaveGone limits (one ∷ []) (d ++ after ∷ [])) (sym gone) (after, read, inr ([], refl, refl))
+  stays (x ∷ front) done one after (y, was, inl (over, gone)) read =
+      (y, was, inl (over, stays front done one after gone read))
   stays (x ∷ front) done one after (y, was, inr (later, is, gone)) read =
       (y, was, inr (later ++ after ∷ [], ap (λ d. d ++ after ∷ []) is, stays front later one after gone read))
 
   -- one more is over
-  leaves : (front done : List Parted) (one after : Parted) → HaveGone limits front done → IsRead one after → IsOver limits after
+  leaves : (front done : List Parted) (one after : Parted) → HaveGone limits front done → IsRead one after
+      → IsOver limits after
       → HaveGone limits (front ++ one ∷ []) done
   leaves [] done one after gone read over = (after, read, inl (over, gone))
-  leaves (x ∷ front) done one after (y, was, inl (over', gone)) read over = (y, was, inl (over', leaves front done one after gone read over))
+  leaves (x ∷ front) done one after (y, was, inl (over', gone)) read over =
+      (y, was, inl (over', leaves front done one after gone read over))
   leaves (x ∷ front) done one after (y, was, inr (later, is, gone)) read over =
       (y, was, inr (later, is, leaves front later one after gone read over))
 
   module _ {P : Type 0} (parted : P → Parted) where
-    pub far_at_first : (items : List P) → All (λ one. (parted one).shut ≡ true) items → IsFar parted limits (map parted items) items 0
+    pub far_at_first : (items : List P) → All (λ one. (parted one).shut ≡ true) items
+        → IsFar parted limits (map parted items) items 0
     far_at_first items all = record {
       front = [];
       done = [];
@@ -89,7 +95,8 @@ module _ (limits : Limits) where
       all = all;
     }
 
-    shifted : (front : List Parted) (done back : List P) (one : P) (more : List P) (before : List Parted) → before ≡ front ++ map parted back
+    shifted : (front : List Parted) (done back : List P) (one : P) (more : List P) (before : List Parted)
+        → before ≡ front ++ map parted back
         → back ≡ one ∷ more → before ≡ (front ++ parted one ∷ []) ++ map parted more
     shifted front done back one more before e is =
         e ∙ ap (λ (l : List P). front ++ map parted l) is ∙ sym (append_assoc front (parted one ∷ []) (map parted more))
@@ -98,15 +105,18 @@ module _ (limits : Limits) where
         → HasStayed parted now at later → IsFar parted limits before later (at + 1)
     far_stayed before now later at far stayed =
         let t = stayed.turned in
-        let k = same_parts far.done far.back t.front t.back t.one (sym far.now_is ∙ t.before_is) (sym far.at_is ∙ t.at_is) in
+        let k = same_parts far.done far.back t.front t.back t.one (sym far.now_is ∙ t.before_is)
+        (sym far.at_is ∙ t.at_is) in
         record {
           front = far.front ++ parted t.one ∷ [];
           done = far.done ++ t.after ∷ [];
           back = t.back;
           before_is = shifted far.front far.done far.back t.one t.back before far.before_is k.1;
-          now_is = stayed.now_is ∙ ap (λ (l : List P). l ++ t.after ∷ t.back) (sym k.0) ∙ sym (append_assoc far.done (t.after ∷ []) t.back);
+          now_is = stayed.now_is ∙ ap (λ (l : List P). l ++ t.after ∷ t.back) (sym k.0)
+              ∙ sym (append_assoc far.done (t.after ∷ []) t.back);
           at_is = ap (λ n. n + 1) far.at_is ∙ sym (length_behind far.done t.after);
-          gone = subst (λ d. HaveGone limits (far.front ++ parted t.one ∷ []) d) (sym (map_append parted far.done (t.after ∷ [])))
+          gone = subst (λ d. HaveGone limits (far.front ++ parted t.one ∷ []) d)
+              (sym (map_append parted far.done (t.after ∷ [])))
               (stays far.front (map parted far.done) (parted t.one) (parted t.after) far.gone t.read);
           all = subst (λ (l : List P). All (λ one. (parted one).shut ≡ true) l) (sym stayed.now_is) t.all;
         }
@@ -115,7 +125,8 @@ module _ (limits : Limits) where
         → HasLeft parted limits now at later → IsFar parted limits before later at
     far_left before now later at far left =
         let t = left.turned in
-        let k = same_parts far.done far.back t.front t.back t.one (sym far.now_is ∙ t.before_is) (sym far.at_is ∙ t.at_is) in
+        let k = same_parts far.done far.back t.front t.back t.one (sym far.now_is ∙ t.before_is)
+        (sym far.at_is ∙ t.at_is) in
         let all = all_parts (λ one. (parted one).shut ≡ true) t.front t.after t.back t.all in
         record {
           front = far.front ++ parted t.one ∷ [];
@@ -150,7 +161,8 @@ module _ (limits : Limits) where
             at_is = taken_length items at lt;
             after = t;
             read = read;
-            all = all_joined (λ one. (parted one).shut ≡ true) (take at items) t (drop (suc at) items) parts.0 (read.shut ∙ parts.1) parts.2;
+            all = all_joined (λ one. (parted one).shut ≡ true) (take at items) t (drop (suc at) items) parts.0
+                (read.shut ∙ parts.1) parts.2;
           };
           now_is = set_parts items at t lt;
         }
@@ -172,7 +184,8 @@ module _ (limits : Limits) where
             at_is = taken_length items at lt;
             after = t;
             read = read;
-            all = all_joined (λ one. (parted one).shut ≡ true) (take at items) t (drop (suc at) items) parts.0 (read.shut ∙ parts.1) parts.2;
+            all = all_joined (λ one. (parted one).shut ≡ true) (take at items) t (drop (suc at) items) parts.0
+                (read.shut ∙ parts.1) parts.2;
           };
           over = over;
           now_is = removed ∙ set_removed items at t lt;

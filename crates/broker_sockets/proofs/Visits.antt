@@ -11,14 +11,17 @@ use Rattle.iiop_broker.specs.declared.stream_fault.StreamFault.TheVariants as fa
 use Rattle.broker_sockets.specs.Visits.{AreCut, AreSeen, AreServed, IsOneMore, IsSeen, Went, went_as}
 
 -- a stream leaves the other connections as they were, however it ends
-pub there_stays : {S : Type 0} (acting : Acting S) (served : Served) (c reads : ℕ) (before : World S Stream) (from : Ends)
+pub there_stays : {S : Type 0} (acting : Acting S) (served : Served) (c reads : ℕ) (before : World S Stream)
+    (from : Ends)
     (result : Result (Unit {0}) StreamFault) (after : World S Stream) (to : Ends)
     → IsServed acting served c reads before from result after to → after.there ≡ before.there
 there_stays acting served c reads before from (Ok done) after to is = is.outcome.told.there
-there_stays acting served c reads before from (Err faults.AlreadyThere) after to is = ap (λ w. w.there) is.unchanged.world
+there_stays acting served c reads before from (Err faults.AlreadyThere) after to is =
+    ap (λ w. w.there) is.unchanged.world
 there_stays acting served c reads before from (Err faults.ReadFailed) after to is = is.outcome.told.there
 there_stays acting served c reads before from (Err (faults.WriteFailed sent)) after to is = is.outcome.told.there
-there_stays acting served c reads before from (Err faults.NoMemory) after to (inl is) = ap (λ w. w.there) is.unchanged.world
+there_stays acting served c reads before from (Err faults.NoMemory) after to (inl is) =
+    ap (λ w. w.there) is.unchanged.world
 there_stays acting served c reads before from (Err faults.NoMemory) after to (inr is) = is.outcome.told.there
 there_stays acting served c reads before from (Err faults.ReadLimit) after to is = is.outcome.told.there
 there_stays acting served c reads before from (Err faults.TooMany) after to is = ap (λ w. w.there) is.unchanged.world
@@ -65,7 +68,8 @@ module _ {S : Type 0} (acting : Acting S) (served : Served) where
       (are.0, are.1, seen_behind more gone from to are.0 between after are.2 seen)
 
   -- one more
-  pub one_more_served : (Told Told' : List Went → Type 0) (count : ℕ) (came : List Ends) (before : S) (came' : List Ends) (between : S)
+  pub one_more_served : (Told Told' : List Went → Type 0) (count : ℕ) (came : List Ends) (before : S)
+      (came' : List Ends) (between : S)
       (came'' : List Ends) (after : S) → AreServed Told acting served count came before came' between
       → IsOneMore Told Told' acting served came' between came'' after
       → AreServed Told' acting served (count + 1) came before came'' after
@@ -79,7 +83,8 @@ module _ {S : Type 0} (acting : Acting S) (served : Served) where
   }
 
   -- where no other comes, they are as they were
-  pub cut_off : (Told Told' : List Went → Type 0) (count fewer : ℕ) (came : List Ends) (before : S) (came' came'' : List Ends)
+  pub cut_off : (Told Told' : List Went → Type 0) (count fewer : ℕ) (came : List Ends) (before : S)
+      (came' came'' : List Ends)
       (between after : S) → fewer < count → AreServed Told acting served fewer came before came' between
       → ((all : List Went) → Told all → Told' all) → came'' ≡ came' → after ≡ between
       → AreCut Told' acting served count came before came'' after

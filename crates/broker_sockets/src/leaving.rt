@@ -4,9 +4,9 @@ ghost use Rattle.std.specs.Prelude.{◌≡◌, ◌+◌, ◌<◌, ◌≤◌, leng
 ghost use Rattle.broker_sockets.specs.Parted.{counted, parted};
 
 use crate::moving::read_now;
+use crate::partings::{Limits, Parting, Skip, part};
 use iiop_broker::Failed;
 use mio::net::TcpStream;
-use crate::partings::{Limits, Parting, Skip, part};
 use std::io::{self, Read};
 use std::net::{OpenStream, Shutdown};
 use std::time::{Clock, Duration, Instant};

@@ -33,7 +33,8 @@ pub trait BlockingListener: Listener {
     /// No connection came.
     fn accept(&mut self) -> Result<(Self::Reader, Self::Writer), Failed>
         ensures came { IfOk result (λ it. Self.came self.new ≡ Self.came self.old
-            ++ ends (Self.Reader.left it.0) (Self.Writer.written it.1) (Self.Reader.failure it.0) (Self.Writer.failure it.1) ∷ []) }
+            ++ ends (Self.Reader.left it.0) (Self.Writer.written it.1) (Self.Reader.failure it.0)
+            (Self.Writer.failure it.1) ∷ []) }
         ensures reading { IfOk result (λ it. Self.Reader.failure it.0 ≡ false) }
         ensures writing { IfOk result (λ it. Self.Writer.failure it.1 ≡ false) }
         ensures kept { OnErr result (Self.came self.new ≡ Self.came self.old) }

@@ -6,11 +6,11 @@ ghost use Rattle.broker_sockets.specs.Objects.{AreOf, IsBrokerOf, IsObjectFault,
 
 use crate::fault::ServeFault;
 use broker_answers::attribute_keeper::Keeper;
+use command_tables::{interface_place, object_in};
 use giop::Giop;
 use iiop_broker::Broker;
 use position_checker::Accepted;
 use std::alloc::{AllocError, Global};
-use command_tables::{interface_place, object_in};
 
 /// The key of the object, and the place of its interface. The table of a file has fewer than
 /// 4,294,967,296 interfaces; one that has more is refused for want of memory.

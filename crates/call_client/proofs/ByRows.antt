@@ -40,7 +40,8 @@ module _ (Told Mid Told' : List Ends → Type 0) (ps : List ListedProfile) (i : 
         from = to.talk.from;
         to = to.talk.to;
         lines_are = to.talk.lines_are
-            ∙ ap (λ (l : List Line). l ++ made profile.body.host.items profile.body.port to.talk.from ∷ []) vain.lines_are;
+            ∙ ap (λ (l : List Line). l ++ made profile.body.host.items profile.body.port to.talk.from ∷ [])
+            vain.lines_are;
         gone = λ all told. to.talk.gone all (vain.gone all told);
         called = to.talk.called;
       };
@@ -67,7 +68,8 @@ module _ (Told Mid Told' : List Ends → Type 0) (ps : List ListedProfile) (i : 
     };
   }
 
-  given_up : (fault : CallFault) (some : List Line) → (fault ≡ NotReached → ⊥) → IsBefore Mid Told' fault some [] mid lines'
+  given_up : (fault : CallFault) (some : List Line) → (fault ≡ NotReached → ⊥)
+      → IsBefore Mid Told' fault some [] mid lines'
       → IsGivenUp Told Told' (rows_of ps) fault lines lines'
   given_up NotReached some other more = absurd (other refl)
   given_up NoMemory some other more = record {
@@ -80,7 +82,8 @@ module _ (Told Mid Told' : List Ends → Type 0) (ps : List ListedProfile) (i : 
   given_up fault some other more = absurd more
 
   -- it ends with the call by this profile
-  pub called : (ask : Asking) (naming : Naming) (place : ℕ) → place ≡ i → (profile : IiopProfile) → p ≡ listed.Iiop profile
+  pub called : (ask : Asking) (naming : Naming) (place : ℕ) → place ≡ i → (profile : IiopProfile)
+      → p ≡ listed.Iiop profile
       → (result : Result (Option Answer) CallFault) → (result ≡ Err NotReached → ⊥)
       → IsCalledTo Mid Told' ask (IsTarget naming place (iiop_of profile)) (iiop_of profile) mid result lines'
       → IsCalledBy Told Told' ask naming (rows_of ps) lines result lines'

@@ -95,7 +95,8 @@ brings_last id run rest octets piece e few = λ front more same some.
     ]
 
 -- what the stream says with what was read next
-pub record ReadOn (id : ℕ) (before : Option (List ℕ)) (piece : List ℕ) (count : ℕ) (says : Heard) (after : Option (List ℕ))
+pub record ReadOn (id : ℕ) (before : Option (List ℕ)) (piece : List ℕ) (count : ℕ) (says : Heard)
+    (after : Option (List ℕ))
     : Type 0 where
   pub octets : List ℕ
   pub read : Gives before octets after
@@ -104,7 +105,8 @@ pub record ReadOn (id : ℕ) (before : Option (List ℕ)) (piece : List ℕ) (co
   pub many : count + length piece ≤ length octets
 
 pub read_on : (id : ℕ) (before now after : Option (List ℕ)) (run : Option (List ℕ)) (rest piece : List ℕ) (count : ℕ)
-    (says : Heard) → Going id before run rest now count → Gives now piece after → says ≡ heard_more id (Waits run rest) piece
+    (says : Heard) → Going id before run rest now count → Gives now piece after
+    → says ≡ heard_more id (Waits run rest) piece
     → length piece ≤ max (wanted rest) 1 → ReadOn id before piece count says after
 read_on id before now after run rest piece count says g h e few = record {
   octets = g.octets ++ piece;
@@ -115,7 +117,8 @@ read_on id before now after run rest piece count says g h e few = record {
 }
 
 pub goes_on : (id : ℕ) (before after : Option (List ℕ)) (run : Option (List ℕ)) (rest piece : List ℕ) (count : ℕ)
-    → ReadOn id before piece count (Waits run rest) after → 0 < length piece → Going id before run rest after (count + 1)
+    → ReadOn id before piece count (Waits run rest) after → 0 < length piece
+    → Going id before run rest after (count + 1)
 goes_on id before after run rest piece count r some =
     record { octets = r.octets; read = r.read; waits = r.heard_is; many = omega (arith, r.many, some) }
 
@@ -132,7 +135,8 @@ ended id before now after run rest piece count g h none empty =
       so = record { unanswered = record { run = run; rest = rest; waits = g.waits }; cause_is = empty };
     }
 
-pub failed : (id : ℕ) (before now after : Option (List ℕ)) (run : Option (List ℕ)) (rest : List ℕ) (count : ℕ) (failure : Bool)
+pub failed : (id : ℕ) (before now after : Option (List ℕ)) (run : Option (List ℕ)) (rest : List ℕ) (count : ℕ)
+    (failure : Bool)
     → Going id before run rest now count → Gives now [] after → failure ≡ true
     → AreRead before (IsGivenUp id (failure ≡ true)) after
 failed id before now after run rest count failure g same e = record {
@@ -151,7 +155,8 @@ limit id before now run rest count reads g past = record {
 }
 
 pub broken : (id : ℕ) (before after : Option (List ℕ)) (piece : List ℕ) (count : ℕ) (fault : FramingFault)
-    → ReadOn id before piece count (Breaks fault) after → AreRead before (IsBrought id (λ octets. heard id octets ≡ Breaks fault)) after
+    → ReadOn id before piece count (Breaks fault) after
+    → AreRead before (IsBrought id (λ octets. heard id octets ≡ Breaks fault)) after
 broken id before after piece count fault r =
     record { octets = r.octets; read = r.read; so = record { so = r.heard_is; last = r.last } }
 
@@ -161,7 +166,8 @@ closed id before after piece count r =
     record { octets = r.octets; read = r.read; so = record { so = r.heard_is; last = r.last } }
 
 pub refused : (id : ℕ) (before after : Option (List ℕ)) (piece : List ℕ) (count : ℕ)
-    → ReadOn id before piece count Refuses after → AreRead before (IsBrought id (λ octets. heard id octets ≡ Refuses)) after
+    → ReadOn id before piece count Refuses after
+    → AreRead before (IsBrought id (λ octets. heard id octets ≡ Refuses)) after
 refused id before after piece count r =
     record { octets = r.octets; read = r.read; so = record { so = r.heard_is; last = r.last } }
 
@@ -175,10 +181,16 @@ answered id before after piece message count said r s e = record {
 }
 
 pub unreadable : (id : ℕ) (before after : Option (List ℕ)) (piece message : List ℕ) (count : ℕ)
-    → ReadOn id before piece count (Replies message) after → ((said : Answered) → Says message (Answers said) → said.id ≡ id → ⊥)
+    → ReadOn id before piece count (Replies message) after
+    → ((said : Answered) → Says message (Answers said) → said.id ≡ id → ⊥)
     → AreRead before (IsBrought id (IsUnreadable id)) after
 unreadable id before after piece message count r none =
-    record { octets = r.octets; read = r.read; so = record { so = record { message = message; heard_is = r.heard_is; none = none }; last = r.last } }
+    record {
+      octets = r.octets;
+      read = r.read;
+      so =
+          record { so = record { message = message; heard_is = r.heard_is; none = none }; last = r.last };
+    }
 
 -- what the reply that came says
 pub outcome_in : (id reads : ℕ) (before after : Option (List ℕ)) (piece message : List ℕ) (count : ℕ)

@@ -38,7 +38,8 @@ pub missed_next : (ps : List ListedProfile) (i : ℕ) (p : ListedProfile) → i 
     → all_missed (rows_of (take (i + 1) ps)) ≡ all_missed (rows_of (take i ps)) ++ all_missed (row_of p ∷ [])
 missed_next ps i p within is =
     let taken : take (i + 1) ps ≡ take i ps ++ p ∷ [] =
-    ap (λ n. take n ps) (add-one i) ∙ take-suc ps i p within ∙ ap (λ (q : ListedProfile). take i ps ++ q ∷ []) (sym is) in
+    ap (λ n. take n ps) (add-one i) ∙ take-suc ps i p within
+    ∙ ap (λ (q : ListedProfile). take i ps ++ q ∷ []) (sym is) in
     ap (λ (some : List ListedProfile). all_missed (rows_of some)) taken
     ∙ ap all_missed (rows_append (take i ps) (p ∷ []))
     ∙ missed_append (rows_of (take i ps)) (row_of p ∷ [])

@@ -6,8 +6,8 @@ ghost use Rattle.call_client.specs.inner.Replies.{IsAnswerIn};
 use crate::answer::{Answer, read_answer};
 use crate::fault::CallFault;
 use giop::Giop;
-use iiop_broker::{Input, read_within};
 use giop_messages::reply_streams::{Heard, ReplyStream, SentReply};
+use iiop_broker::{Input, read_within};
 use std::alloc::Global;
 
 /// So many octets are read at a time at most.

@@ -24,7 +24,8 @@ isnt_forwarded (Forwarded ior) other = absurd (other ior refl)
 isnt_forwarded outcome other = tt
 
 one_more : (ask : Asking) (called : Called) (from : At) (hops : List At) (last to : At)
-    → AreForwarded ask called from hops last → IsForwarded ask called last to → AreForwarded ask called from (hops ++ to ∷ []) to
+    → AreForwarded ask called from hops last → IsForwarded ask called last to
+    → AreForwarded ask called from (hops ++ to ∷ []) to
 one_more ask called from [] last to same step = (subst (λ (a : At). IsForwarded ask called a to) (sym same) step, refl)
 one_more ask called from (hop ∷ hops) last to chain step = (chain.0, one_more ask called hop hops last to chain.1 step)
 
@@ -76,7 +77,8 @@ module _ (Told : List Ends → Type 0) (ask : Asking) (called : Called) (referen
 
     -- it ends here
     pub ended : (result : Result (Option Outcome) CallFault) → count ≤ 8 → IsOther result
-        → IsCalledHeeding Mid Told' ask called at mid result lines' → IsFollowed Told Told' ask called reference lines result lines'
+        → IsCalledHeeding Mid Told' ask called at mid result lines'
+        → IsFollowed Told Told' ask called reference lines result lines'
     ended result few other step = record {
       hops = under.hops;
       last = under.last;
@@ -108,7 +110,8 @@ module _ (Told : List Ends → Type 0) (ask : Asking) (called : Called) (referen
     last = under.last;
     forwarded = under.forwarded;
     tos = [];
-    gone = λ all told. subst (λ (l : List Ends). Mid (all ++ l)) (sym (append-nil under.last.tos)) (under.gone all told);
+    gone = λ all told. subst (λ (l : List Ends). Mid (all ++ l)) (sym (append-nil under.last.tos))
+        (under.gone all told);
     ends = inr (record {
       result_is = refl;
       count_is = under.count_is;

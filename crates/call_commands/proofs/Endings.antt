@@ -14,33 +14,34 @@ use Rattle.call_client.specs.declared.fault.CallFault.{CallFault}
 use Rattle.call_commands.specs.declared.fault.CallRefusal.{CallRefusal}
 use Rattle.call_commands.specs.declared.fault.CallRefusal.TheVariants.{NoOperation, Unsaid, Unanswered}
 
-module _ (Told Told' : Telling) (choice : Choice) (ask : TextCall) (reference : Reference) (lines lines' : List Line) where
-  -- the last reply doesn't say that the object is elsewhere
-  pub last : (outcome : Outcome) → IsSaid Told Told' choice ask reference lines (Ok (Some outcome)) lines'
-      → IsLastOutcome outcome
-  last (outcomes.Forwarded ior) said = said.followed.ends
-  last (outcomes.Returned text) said = tt
-  last (outcomes.Raised text) said = tt
-  last (outcomes.Failed exception) said = tt
-  last (outcomes.Readdressed disposition) said = tt
+module _ (Told Told' : Telling) (choice : Choice) (ask : TextCall) (reference : Reference) (lines lines' : List Line)
+  where
+    -- the last reply doesn't say that the object is elsewhere
+    pub last : (outcome : Outcome) → IsSaid Told Told' choice ask reference lines (Ok (Some outcome)) lines'
+        → IsLastOutcome outcome
+    last (outcomes.Forwarded ior) said = said.followed.ends
+    last (outcomes.Returned text) said = tt
+    last (outcomes.Raised text) said = tt
+    last (outcomes.Failed exception) said = tt
+    last (outcomes.Readdressed disposition) said = tt
 
-  pub ended : (outcome : Outcome) (ending : Ending) → IsEnding outcome (Ok ending)
-      → IsSaid Told Told' choice ask reference lines (Ok (Some outcome)) lines'
-      → IsCarriedOut Told Told' choice ask reference lines (Ok ending) lines'
-  ended outcome ending is said =
-      subst (λ (o : Option Outcome). IsSaid Told Told' choice ask reference lines (Ok o) lines') (sym is) said
+    pub ended : (outcome : Outcome) (ending : Ending) → IsEnding outcome (Ok ending)
+        → IsSaid Told Told' choice ask reference lines (Ok (Some outcome)) lines'
+        → IsCarriedOut Told Told' choice ask reference lines (Ok ending) lines'
+    ended outcome ending is said =
+        subst (λ (o : Option Outcome). IsSaid Told Told' choice ask reference lines (Ok o) lines') (sym is) said
 
-  pub readdressed : (outcome : Outcome) (fault : CallFault) → IsEnding outcome (Err fault)
-      → IsSaid Told Told' choice ask reference lines (Ok (Some outcome)) lines'
-      → IsCarriedOut Told Told' choice ask reference lines (Err (Unanswered fault)) lines'
-  readdressed outcome fault is said = inr (inr (record { outcome = outcome; asks = is; said = said }))
+    pub readdressed : (outcome : Outcome) (fault : CallFault) → IsEnding outcome (Err fault)
+        → IsSaid Told Told' choice ask reference lines (Ok (Some outcome)) lines'
+        → IsCarriedOut Told Told' choice ask reference lines (Err (Unanswered fault)) lines'
+    readdressed outcome fault is said = inr (inr (record { outcome = outcome; asks = is; said = said }))
 
-  -- the operation is the one that the word names
-  pub text_called : (types : Types) (result : Result Ending CallRefusal)
-      → chosen types.table.now.model types.names.now reference.type_id ask.operation.now ≡ Some choice
-      → IsCarriedOut Told Told' choice ask reference lines result lines'
-      → IsTextCalled Told Told' types ask reference lines result lines'
-  text_called types (Ok ending) is carried = record { choice = choice; chosen_is = is; is = carried }
-  text_called types (Err NoOperation) is carried = absurd carried
-  text_called types (Err (Unsaid fault)) is carried = record { choice = choice; chosen_is = is; is = carried }
-  text_called types (Err (Unanswered fault)) is carried = record { choice = choice; chosen_is = is; is = carried }
+    -- the operation is the one that the word names
+    pub text_called : (types : Types) (result : Result Ending CallRefusal)
+        → chosen types.table.now.model types.names.now reference.type_id ask.operation.now ≡ Some choice
+        → IsCarriedOut Told Told' choice ask reference lines result lines'
+        → IsTextCalled Told Told' types ask reference lines result lines'
+    text_called types (Ok ending) is carried = record { choice = choice; chosen_is = is; is = carried }
+    text_called types (Err NoOperation) is carried = absurd carried
+    text_called types (Err (Unsaid fault)) is carried = record { choice = choice; chosen_is = is; is = carried }
+    text_called types (Err (Unanswered fault)) is carried = record { choice = choice; chosen_is = is; is = carried }

@@ -21,7 +21,8 @@ record IsFreed (Told Told' : List Ends → Type 0) (ask : Asking) (by_name : Nam
   gone : (all : List Ends) → Told all → Told' (all ++ tos)
   called : IsCalledBy (just []) (just tos) ask by_name rows lines result lines'
 
-module _ (Told Told' : List Ends → Type 0) (ask : Asking) (by_name : Naming) (rows : List Row) (lines lines' : List Line) where
+module _ (Told Told' : List Ends → Type 0) (ask : Asking) (by_name : Naming) (rows : List Row)
+    (lines lines' : List Line) where
   talked : (result : Result (Option Answer) CallFault) (by : IsTalkBy Told Told' ask by_name rows lines result lines')
       → IsTalkBy (just []) (just (by.talk.talk.to ∷ [])) ask by_name rows lines result lines'
   talked result by = record {
@@ -98,7 +99,8 @@ undone Told ask called reference lines = record {
 }
 
 -- there was no answer
-pub unanswered : (Told Told' : List Ends → Type 0) (ask : InForm) (called : Called) (reference : Reference) (rows : List Row)
+pub unanswered : (Told Told' : List Ends → Type 0) (ask : InForm) (called : Called) (reference : Reference)
+    (rows : List Row)
     (lines lines' : List Line) (fault : CallFault) → AreRows reference.profiles rows
     → IsCalledBy Told Told' ask.asking (naming ask.form reference) rows lines (Err fault) lines'
     → IsCalledOnce Told Told' ask called reference lines (Err fault) lines'
@@ -108,16 +110,20 @@ unanswered Told Told' ask called reference rows lines lines' fault are by =
 
 -- none was wanted
 pub sent : (Told Told' : List Ends → Type 0) (ask : InForm) (called : Called) (reference : Reference) (rows : List Row)
-    (lines lines' : List Line) → AreRows reference.profiles rows → IsCalledBy Told Told' ask.asking (naming ask.form reference) rows lines (Ok None) lines'
+    (lines lines' : List Line) → AreRows reference.profiles rows
+    → IsCalledBy Told Told' ask.asking (naming ask.form reference) rows lines (Ok None) lines'
     → IsCalledOnce Told Told' ask called reference lines (Ok None) lines'
 sent Told Told' ask called reference rows lines lines' are by =
     let f = freed Told Told' ask.asking (naming ask.form reference) rows lines lines' (Ok None) by in
     record { tos = f.tos; gone = f.gone; once = record { rows = rows; rows_are = are; called = f.called } }
 
 -- there was one
-pub answered : (Told Told' : List Ends → Type 0) (ask : InForm) (called : Called) (reference : Reference) (rows : List Row)
-    (lines lines' : List Line) (answer : Answer) (result : Result (Option Outcome) CallFault) → AreRows reference.profiles rows
-    → IsCalledBy Told Told' ask.asking (naming ask.form reference) rows lines (Ok (Some answer)) lines' → IsOutcomeIn called (answer_of answer) result
+pub answered : (Told Told' : List Ends → Type 0) (ask : InForm) (called : Called) (reference : Reference)
+    (rows : List Row)
+    (lines lines' : List Line) (answer : Answer) (result : Result (Option Outcome) CallFault)
+    → AreRows reference.profiles rows
+    → IsCalledBy Told Told' ask.asking (naming ask.form reference) rows lines (Ok (Some answer)) lines'
+    → IsOutcomeIn called (answer_of answer) result
     → IsCalledOnce Told Told' ask called reference lines result lines'
 answered Told Told' ask called reference rows lines lines' answer result are by says =
     let f = freed Told Told' ask.asking (naming ask.form reference) rows lines lines' (Ok (Some answer)) by in
@@ -125,7 +131,8 @@ answered Told Told' ask called reference rows lines lines' answer result are by 
     record { rows = rows; rows_are = are; called = f.called } in
     record { tos = f.tos; gone = f.gone; once = by_result f.tos hop result says }
   where
-    by_result : (tos : List Ends) → IsHop ask reference lines (Ok (Some answer)) lines' tos → (r : Result (Option Outcome) CallFault)
+    by_result : (tos : List Ends) → IsHop ask reference lines (Ok (Some answer)) lines' tos
+        → (r : Result (Option Outcome) CallFault)
         → IsOutcomeIn called (answer_of answer) r → IsOnce ask called reference lines r lines' tos
     by_result tos hop (Ok None) none = absurd none
     by_result tos hop (Ok (Some outcome)) is = record { answer = answer; hop = hop; outcome_is = is }

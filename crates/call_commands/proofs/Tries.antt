@@ -40,11 +40,13 @@ module _ (Told Mid Told' : List Ends → Type 0) (ask : InForm) (called : Called
       → IsCalledOnce Mid Told' ask called reference mid result lines'
       → IsCalledTwice Told Told' ask called reference lines result lines'
   again before closed first second =
-      let one = subst (λ (r : Result (Option Outcome) CallFault). IsCalledOnce Told Mid ask called reference lines r mid)
+      let one = subst (λ (r : Result (Option Outcome) CallFault). IsCalledOnce Told Mid ask called reference lines r
+      mid)
       (closing before closed) first in
       record {
         tos = one.tos ++ second.tos;
-        gone = λ all told. subst Told' (append_assoc all one.tos second.tos) (second.gone (all ++ one.tos) (one.gone all told));
+        gone = λ all told. subst Told' (append_assoc all one.tos second.tos)
+            (second.gone (all ++ one.tos) (one.gone all told));
         tried = inr (record {
           mid = mid;
           first = one.tos;

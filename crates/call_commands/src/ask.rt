@@ -1,9 +1,9 @@
 //! What is asked for.
 
 use giop::Giop;
-use type_model::part_names::PartNames;
 use position_checker::Accepted;
 use type_graph::Order;
+use type_model::part_names::PartNames;
 
 /// The types by which calls are made: those of GIOP, and those of a table with the names of their
 /// parts.

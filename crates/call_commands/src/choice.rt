@@ -5,11 +5,11 @@ ghost use Rattle.giop_types.specs.GiopModel.{giop_table};
 ghost use Rattle.type_model.specs.Names.{IsNamed};
 ghost use Rattle.call_commands.specs.Choices.{choice_of, chosen as chosen_by, of_table, own as own_choice, own_as as as_own};
 
-use type_model::called_operations::operation_of;
 use giop::Giop;
 use giop_types::{BOOLEAN_RESULT, ID_ARGUMENT, NO_ARGUMENT};
-use type_model::part_names::PartNames;
 use position_checker::Accepted;
+use type_model::called_operations::operation_of;
+use type_model::part_names::PartNames;
 
 /// An operation with its types and the names of their parts: the frames of its arguments and of its
 /// result, and the exceptions that it may raise.

@@ -10,8 +10,8 @@ use crate::fault::CallRefusal;
 use crate::sending::called;
 use call_client::object_calls::Dial;
 use reference_texts::Ior;
-use type_model::part_names::PartNames;
 use std::alloc::Global;
+use type_model::part_names::PartNames;
 
 /// Calls an operation of the object that a reference names, with the arguments that a text says.
 ///

@@ -23,7 +23,8 @@ module _ (Reads : Passing) (word : List ℕ) where
   octets Text Decode is = refl
   octets form Encode is = absurd cc
 
-  pub text : (form : Form) (way : Way) (input : List ℕ) → form ≡ Text → way ≡ Encode → IsTextFor Reads word input → IsInput Reads form way word input
+  pub text : (form : Form) (way : Way) (input : List ℕ) → form ≡ Text → way ≡ Encode → IsTextFor Reads word input
+      → IsInput Reads form way word input
   text Text Encode input of_text to_encode for = for
   text Hex way input of_text to_encode for = absurd cc
   text form Decode input of_text to_encode for = absurd cc
@@ -36,22 +37,25 @@ module _ (Reads : Passing) (word : List ℕ) where
   pub of_file : (file input : List ℕ) → IsSource word (Some file) → Reads file input → IsTextFor Reads word input
   of_file file input from read = record { source = Some file; from = from; had = read }
 
-module _ (Reads : Passing) (table : TableParts) (labels : Labels) (ask : ValueAsk) (form : Form) (is : ask.form ≡ form) where
-  module _ (input : List ℕ) (stands : IsInput Reads ask.form ask.value.way ask.value.input input) {A : Type 0} (text_of : A → List ℕ) where
-    pub answered : (r : Result A NamedFault) → IfOk r (λ line. IsLineOf form table labels (with_input ask.value input) (text_of line))
-        → IfOk r (λ line. AnswersBy Reads table labels ask (text_of line))
-    answered (Ok line) h = record {
-      input = input;
-      stands = stands;
-      answers = subst (λ (f : Form). IsLineOf f table labels (with_input ask.value input) (text_of line)) (sym is) h;
-    }
-    answered (Err fault) h = tt
+module _ (Reads : Passing) (table : TableParts) (labels : Labels) (ask : ValueAsk) (form : Form) (is : ask.form ≡ form)
+  where
+    module _ (input : List ℕ) (stands : IsInput Reads ask.form ask.value.way ask.value.input input) {A : Type 0}
+        (text_of : A → List ℕ) where
+      pub answered : (r : Result A NamedFault)
+          → IfOk r (λ line. IsLineOf form table labels (with_input ask.value input) (text_of line))
+          → IfOk r (λ line. AnswersBy Reads table labels ask (text_of line))
+      answered (Ok line) h = record {
+        input = input;
+        stands = stands;
+        answers = subst (λ (f : Form). IsLineOf f table labels (with_input ask.value input) (text_of line)) (sym is) h;
+      }
+      answered (Err fault) h = tt
 
-    pub unanswered : (r : Result A NamedFault) → IfErr r (IsRefusedIn form table labels (with_input ask.value input))
-        → IfErr r (RefusesBy Reads table labels ask)
-    unanswered (Ok line) h = tt
-    unanswered (Err fault) h = inr (record {
-      input = input;
-      stands = stands;
-      refused = subst (λ (f : Form). IsRefusedIn f table labels (with_input ask.value input) fault) (sym is) h;
-    })
+      pub unanswered : (r : Result A NamedFault) → IfErr r (IsRefusedIn form table labels (with_input ask.value input))
+          → IfErr r (RefusesBy Reads table labels ask)
+      unanswered (Ok line) h = tt
+      unanswered (Err fault) h = inr (record {
+        input = input;
+        stands = stands;
+        refused = subst (λ (f : Form). IsRefusedIn f table labels (with_input ask.value input) fault) (sym is) h;
+      })

@@ -8,11 +8,11 @@ ghost use Rattle.command_files.specs.Loaded.{IsNotLoaded};
 
 use crate::fault::NamedFault;
 use crate::loaded::{Loaded, load};
+use command_tables::{WholeFiles, listing, reference_line};
+use command_texts::outlines;
 use command_words::ReferenceTask;
 use position_checker::accepted_line;
 use std::alloc::{AllocError, Global};
-use command_tables::{WholeFiles, listing, reference_line};
-use command_texts::outlines;
 
 /// The line of a reference.
 ///

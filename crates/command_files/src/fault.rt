@@ -5,10 +5,10 @@ ghost use Rattle.command_files.specs.Fault.{fault_of_source, fault_of_text};
 ghost use Rattle.command_files.specs.declared.fault.NamedFault.TheVariants.{Refused};
 ghost use Rattle.command_tables.specs.declared.refusal.Refusal.TheVariants.{NoMemory};
 
-use idl_compiler::CompileRefusal;
-use std::alloc::AllocError;
 use command_tables::Refusal;
 use command_texts::TextRefusal;
+use idl_compiler::CompileRefusal;
+use std::alloc::AllocError;
 use thiserror::Error;
 use value_text::Refusal as TextFault;
 

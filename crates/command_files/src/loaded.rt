@@ -9,11 +9,11 @@ ghost use Rattle.command_tables.specs.Sample.{sample_table};
 ghost use Rattle.command_files.specs.Loaded.{IsHeldBy, IsLoaded, IsNotHeld, IsNotLoaded, IsTableFile};
 
 use crate::fault::NamedFault;
+use command_tables::{SAMPLE, WholeFiles, accepted, read_file, sample};
 use idl_compiler::compile_source;
-use type_model::part_names::PartNames;
 use position_checker::Accepted;
 use std::alloc::{AllocError, Global};
-use command_tables::{SAMPLE, WholeFiles, accepted, read_file, sample};
+use type_model::part_names::PartNames;
 
 /// A table, and the names of the parts of its types, where these are known.
 #[derive(Drop)]

@@ -11,10 +11,10 @@ ghost use Rattle.command_words.specs.declared.task.Form.TheVariants.{Hex, Text};
 
 use crate::fault::NamedFault;
 use crate::loaded::{Loaded, load};
-use command_words::{Form, ValueTask};
-use std::alloc::Global;
 use command_tables::{ValueRequest, Way, WholeFiles, marshal, read_file};
 use command_texts::marshal_text;
+use command_words::{Form, ValueTask};
+use std::alloc::Global;
 use value_text::{Refusal as TextFault, TextPlace, Wanted};
 
 /// Where the word for a text has it from, if not from itself: standard input for `-`, the file behind

@@ -11,7 +11,9 @@ use Rattle.command_tables.specs.Refusal.{wants_memory, IsOfRun}
 
 module _ (table : TableParts) (ask : Ask) (node : ℕ) (named : Contains table.model.names (ask.name, node)) where
   -- the digits are none
-  pub bad_digits : (refusal : Refusal) → OnFalse (wants_memory refusal) ((refusal ≡ BadHex) × IsErr (decode_of ask.input)) → IsRefusalOf table ask refusal
+  pub bad_digits : (refusal : Refusal)
+      → OnFalse (wants_memory refusal) ((refusal ≡ BadHex) × IsErr (decode_of ask.input))
+      → IsRefusalOf table ask refusal
   bad_digits NoMemory h = tt
   bad_digits BadHex h = record { node = node; named = named; bad = h.1 }
   bad_digits (NoTable fault) h = absurd cc
@@ -30,14 +32,21 @@ module _ (table : TableParts) (ask : Ask) (node : ℕ) (named : Contains table.m
         → IfOk r (λ line. Prints table.model.graph node ask.way ask.order ask.pos input (text_of line))
         → IfOk r (λ line. IsLine table ask (text_of line))
     line_of text_of (Ok line) prints =
-        record { node = node; named = named; answers = record { input = input; digits_are = digits_are; prints = prints } }
+        record {
+          node = node;
+          named = named;
+          answers =
+              record { input = input; digits_are = digits_are; prints = prints };
+        }
     line_of text_of (Err refusal) prints = tt
 
     -- the run was refused
-    refused : (refusal : Refusal) → IsOfRun refusal × OnFalse (wants_memory refusal) (HasNoAnswer table.model.graph node ask.way ask.order ask.pos input)
+    refused : (refusal : Refusal) → IsOfRun refusal
+        × OnFalse (wants_memory refusal) (HasNoAnswer table.model.graph node ask.way ask.order ask.pos input)
         → IsRefusalOf table ask refusal
     refused NoMemory h = tt
-    refused (Refused fault) h = record { node = node; named = named; input = input; digits_are = digits_are; none = h.1 }
+    refused (Refused fault) h =
+        record { node = node; named = named; input = input; digits_are = digits_are; none = h.1 }
     refused BadHex h = absurd h.0
     refused (NoTable fault) h = absurd h.0
     refused (NotRight fault) h = absurd h.0
@@ -50,7 +59,8 @@ module _ (table : TableParts) (ask : Ask) (node : ℕ) (named : Contains table.m
     refused (NoReference fault) h = absurd h.0
 
     pub refusal_of : {A : Type 0} (r : Result A Refusal)
-        → IfErr r (λ refusal. IsOfRun refusal × OnFalse (wants_memory refusal) (HasNoAnswer table.model.graph node ask.way ask.order ask.pos input))
+        → IfErr r (λ refusal. IsOfRun refusal
+        × OnFalse (wants_memory refusal) (HasNoAnswer table.model.graph node ask.way ask.order ask.pos input))
         → IfErr r (IsRefusalOf table ask)
     refusal_of (Ok line) h = tt
     refusal_of (Err refusal) h = refused refusal h

@@ -17,17 +17,21 @@ module _ (Reads : Passing) (name : List ℕ) (table : TableParts) (is : IsTableO
   upgraded_is Takes output (Ok line) written said = record { table = table; is = is; written = written; line_is = said }
   upgraded_is Takes output (Err refusal) written said = tt
 
-  pub not_written : (output : List ℕ) (r : Result A Refusal) → IfErr r (λ refusal. RefusesTable table refusal ⊎ IsUnwritten output refusal)
+  pub not_written : (output : List ℕ) (r : Result A Refusal)
+      → IfErr r (λ refusal. RefusesTable table refusal ⊎ IsUnwritten output refusal)
       → IfErr r (IsNoUpgrade Reads name output)
   not_written output (Ok line) refused = tt
   not_written output (Err refusal) refused = inr (record { table = table; is = is; refused = refused })
 
 -- what was read of a file is refused
 module _ (Reads : Passing) (name octets : List ℕ) (other : name ≢ codes "builtin") (read : Reads name octets) where
-  pub refused_file : {A : Type 0} (r : Result A Refusal) → IfErr r IsOfTable → IfErr r (RefusesFile octets) → IfErr r (IsNoTable Reads name)
+  pub refused_file : {A : Type 0} (r : Result A Refusal) → IfErr r IsOfTable → IfErr r (RefusesFile octets)
+      → IfErr r (IsNoTable Reads name)
   refused_file (Ok table) cause refused = tt
-  refused_file (Err (NoTable fault)) cause refused = record { other = other; octets = octets; read = read; refused = refused }
-  refused_file (Err (NotRight fault)) cause refused = record { other = other; octets = octets; read = read; refused = refused }
+  refused_file (Err (NoTable fault)) cause refused =
+      record { other = other; octets = octets; read = read; refused = refused }
+  refused_file (Err (NotRight fault)) cause refused =
+      record { other = other; octets = octets; read = read; refused = refused }
   refused_file (Err NoMemory) cause refused = tt
   refused_file (Err (Unread file)) cause refused = absurd cause
   refused_file (Err (Unwritten file)) cause refused = absurd cause

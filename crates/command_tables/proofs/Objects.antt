@@ -29,7 +29,8 @@ cut_first (x ∷ k) n [] m e f g =
 cut_first (x ∷ k) n (y ∷ l) m e f g =
     let here : x ≡ y = cc in
     let more : k ++ 61 ∷ n ≡ l ++ 61 ∷ m = cc in
-    let rest = cut_first k n l m more (λ i within. f (suc i) (omega (arith, within))) (λ i within. g (suc i) (omega (arith, within))) in
+    let rest = cut_first k n l m more (λ i within. f (suc i) (omega (arith, within)))
+    (λ i within. g (suc i) (omega (arith, within))) in
     (ap₂ (λ a b. a ∷ b) here rest.0, rest.1)
 
 -- a word names one object

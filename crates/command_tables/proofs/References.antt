@@ -20,7 +20,8 @@ use Rattle.command_tables.proofs.Objects.{object_once}
 lent : (host key h k : List ℕ) (port : ℕ) (octets : List ℕ) → h ≡ host → k ≡ key → IsProfile host port key octets
     → IsProfile h port k octets
 lent host key h k port octets e f is =
-    subst (λ (l : List ℕ). IsProfile l port k octets) (sym e) (subst (λ (l : List ℕ). IsProfile host port l octets) (sym f) is)
+    subst (λ (l : List ℕ). IsProfile l port k octets) (sym e)
+    (subst (λ (l : List ℕ). IsProfile host port l octets) (sym f) is)
 
 pub no_profile : (host key id h k : List ℕ) (port : ℕ) → h ≡ host → k ≡ key
     → ((octets : List ℕ) → IsProfile h port k octets → ⊥) → (text : List ℕ) → IsReferenceText host port key id text → ⊥
@@ -31,15 +32,18 @@ pub text_there : (host key id h k i octets : List ℕ) (port : ℕ) (reference :
     → IsReferenceText host port key id text → IsTextOf reference text
 text_there host key id h k i octets port reference e f g is same text t =
     let one = profile_once h port k octets t.octets is (lent host key h k port t.octets e f t.profile) in
-    let whole : reference_with id t.octets ≡ reference = ap (reference_with id) (sym one) ∙ ap (λ l. reference_with l octets) (sym g) ∙ sym same in
+    let whole : reference_with id t.octets ≡ reference = ap (reference_with id) (sym one)
+    ∙ ap (λ l. reference_with l octets) (sym g) ∙ sym same in
     subst (λ (r : Reference). IsTextOf r text) whole t.text_is
 
 some_same : (a b : Interface) → Some a ≡ Some b → a ≡ b
 some_same a b e = cc
 
 -- the object and its interface are the ones that were found
-text_of_it : (model : Parts) (ask : ReferenceParts) (key name id : List ℕ) (interface : Interface) → IsObject ask.object key name
-    → interface_named name model.interfaces ≡ Some interface → id ≡ interface.id → (text : List ℕ) → IsText model ask text
+text_of_it : (model : Parts) (ask : ReferenceParts) (key name id : List ℕ) (interface : Interface)
+    → IsObject ask.object key name
+    → interface_named name model.interfaces ≡ Some interface → id ≡ interface.id → (text : List ℕ)
+    → IsText model ask text
     → IsReferenceText ask.host ask.port key id text
 text_of_it model ask key name id interface o found e text t =
     let same = object_once ask.object t.key t.name key name t.object o in
@@ -49,7 +53,8 @@ text_of_it model ask key name id interface o found e text t =
     subst (λ (i : List ℕ). IsReferenceText ask.host ask.port key i text) ids
     (subst (λ (k : List ℕ). IsReferenceText ask.host ask.port k t.interface.id text) same.0 t.reference)
 
-by_fault : (model : Parts) (ask : ReferenceParts) (key name id : List ℕ) (interface : Interface) (fault : ReferenceFault)
+by_fault : (model : Parts) (ask : ReferenceParts) (key name id : List ℕ) (interface : Interface)
+    (fault : ReferenceFault)
     → IsObject ask.object key name → interface_named name model.interfaces ≡ Some interface → id ≡ interface.id
     → OnFalse (wants_memory fault) ((text : List ℕ) → IsReferenceText ask.host ask.port key id text → ⊥)
     → IsReferenceRefusal model ask (refusal_of_reference fault)
@@ -57,9 +62,12 @@ by_fault model ask key name id interface faults.NoMemory o found e h = tt
 by_fault model ask key name id interface faults.BadIor o found e h =
     λ text t. h text (text_of_it model ask key name id interface o found e text t)
 
-pub refused : (model : Parts) (ask : ReferenceParts) (key name id : List ℕ) (interface : Interface) (fault : ReferenceFault)
+pub refused : (model : Parts) (ask : ReferenceParts) (key name id : List ℕ) (interface : Interface)
+    (fault : ReferenceFault)
     (refusal : Refusal) → refusal ≡ refusal_of_reference fault → IsObject ask.object key name
     → interface_named name model.interfaces ≡ Some interface → id ≡ interface.id
-    → OnFalse (wants_memory fault) ((text : List ℕ) → IsReferenceText ask.host ask.port key id text → ⊥) → IsReferenceRefusal model ask refusal
+    → OnFalse (wants_memory fault) ((text : List ℕ) → IsReferenceText ask.host ask.port key id text → ⊥)
+    → IsReferenceRefusal model ask refusal
 refused model ask key name id interface fault refusal is o found e h =
-    subst (λ (r : Refusal). IsReferenceRefusal model ask r) (sym is) (by_fault model ask key name id interface fault o found e h)
+    subst (λ (r : Refusal). IsReferenceRefusal model ask r) (sym is)
+    (by_fault model ask key name id interface fault o found e h)

@@ -32,7 +32,8 @@ members_rules = record {
 pub sample_is_graph : IsGraph sample_nodes
 sample_is_graph = record {
   limited = omega arith;
-  nodes = All-from_recursion (IsNode sample_nodes) sample_nodes (tt, (tt, (omega arith, ((omega arith, members_rules), tt))));
+  nodes = All-from_recursion (IsNode sample_nodes) sample_nodes
+      (tt, (tt, (omega arith, ((omega arith, members_rules), tt))));
   members = omega arith;
   shallow = each_shallow;
 }

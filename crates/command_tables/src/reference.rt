@@ -11,8 +11,8 @@ ghost use Rattle.command_tables.specs.NoReference.{IsReferenceRefusal};
 use crate::object::{interface_named, object_in};
 use crate::refusal::Refusal;
 use giop_types::GiopTypes;
-use reference_texts::{Ior, ReferenceFault, ior_to_text, profile};
 use position_checker::Accepted;
+use reference_texts::{Ior, ReferenceFault, ior_to_text, profile};
 use std::alloc::{AllocError, Global};
 
 /// The tag of the profiles of IIOP.

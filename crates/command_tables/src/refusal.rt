@@ -6,9 +6,9 @@ ghost use Rattle.command_tables.specs.Refusal.{refusal_of_check, refusal_of_file
 
 use crate::escaped::Escaped;
 use marshal_program::TableFault;
-use reference_texts::ReferenceFault;
 use position_checker::{CheckFault, FileFault};
 use program_runner::RunFault;
+use reference_texts::ReferenceFault;
 use std::alloc::AllocError;
 use thiserror::Error;
 

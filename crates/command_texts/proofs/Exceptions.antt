@@ -15,7 +15,8 @@ use Rattle.command_texts.specs.inner.Ids.{IsFrameOfRaised, IsUnknown}
 some_is : {A : Type 0} (a b : A) → Some a ≡ Some b → a ≡ b
 some_is a b e = cc
 
-all_at : {A : Type 0} (P : A → Type 0) (xs : List A) (i : ℕ) (x : A) → AllByRecursion P xs → slice_get xs i ≡ Some x → P x
+all_at : {A : Type 0} (P : A → Type 0) (xs : List A) (i : ℕ) (x : A) → AllByRecursion P xs → slice_get xs i ≡ Some x
+    → P x
 all_at P [] i x all e = absurd (cc)
 all_at P (y ∷ ys) zero x all e = subst P (some_is y x e) all.0
 all_at P (y ∷ ys) (suc i) x all e = all_at P ys i x all.1 e
@@ -40,7 +41,8 @@ frame_named model lent id numbers e same rules found =
     let there = found_there lent id numbers e (sym found) in
     let P = IsException lent.graph lent.names in
     let named : IsNamed lent.names e.frame =
-    (all_at P lent.exceptions there.0 e (recursion_from_All P lent.exceptions rules.declared.each_exception) there.1).frame.named in
+    (all_at P lent.exceptions there.0 e (recursion_from_All P lent.exceptions rules.declared.each_exception)
+    there.1).frame.named in
     subst (λ (m : Parts). IsNamed m.names e.frame) same named
 
 pub unknown : (model : Parts) (exceptions : List ℕ) (answered : Answered) → IsUnknown model exceptions answered
@@ -49,7 +51,8 @@ unknown model exceptions answered u = Unknown u.id u.id_is u.none
 
 pub unread : (model : Parts) (exceptions : List ℕ) (answered : Answered) (frame : ℕ)
     → IsFrameOfRaised model exceptions answered frame
-    → HasNoValue model.graph answered.order frame answered.body_at answered.body → IsNoneRaised model exceptions answered
+    → HasNoValue model.graph answered.order frame answered.body_at answered.body
+    → IsNoneRaised model exceptions answered
 unread model exceptions answered frame f none =
     Unread f.exception f.raised
     (subst (λ (n : ℕ). HasNoValue model.graph answered.order n answered.body_at answered.body) f.frame_is none)

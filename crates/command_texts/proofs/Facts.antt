@@ -28,24 +28,30 @@ use Rattle.command_texts.specs.declared.refusal.TextRefusal.TheVariants.{Unsaid,
 use Rattle.command_texts.specs.inner.Tapes.{IsOfRun, IsTextOf}
 
 -- the line has the text of the value that the octets encode
-pub text_is : (labels : Labels) (graph lent : List Node) (node : ℕ) (order : Order) (pos : ℕ) (tape slice octets line : List ℕ) (taken : ℕ)
-    → lent ≡ graph → slice ≡ tape → taken ≤ length octets → Means graph (reading order) 64 node pos tape (take taken octets)
+pub text_is : (labels : Labels) (graph lent : List Node) (node : ℕ) (order : Order) (pos : ℕ)
+    (tape slice octets line : List ℕ) (taken : ℕ)
+    → lent ≡ graph → slice ≡ tape → taken ≤ length octets
+    → Means graph (reading order) 64 node pos tape (take taken octets)
     → IsTextOf labels lent node taken slice line → PrintsTextOf labels graph node order pos octets line
 text_is labels graph lent node order pos tape slice octets line taken graph_is tape_is within means told =
-    let text : IsTextOf labels graph node taken tape line = subst (λ (t : List ℕ). IsTextOf labels graph node taken t line) tape_is
+    let text : IsTextOf labels graph node taken tape line =
+    subst (λ (t : List ℕ). IsTextOf labels graph node taken t line) tape_is
     (subst (λ (g : List Node). IsTextOf labels g node taken slice line) graph_is told) in
     record {
       taken = taken;
       within = within;
       value = text.value;
       fits = text.fits;
-      means = subst (λ (t : List ℕ). Means graph (reading order) 64 node pos t (take taken octets)) (sym text.tape_is) means;
+      means = subst (λ (t : List ℕ). Means graph (reading order) 64 node pos t (take taken octets)) (sym text.tape_is)
+          means;
       line_is = text.line_is;
     }
 
 -- a line feed behind the last of three parts
-pub behind : (count text words line : List ℕ) → line ≡ count ++ 32 ∷ words → words ≡ text ++ 10 ∷ [] → line ≡ count ++ 32 ∷ text ++ 10 ∷ []
-behind count text words line is words_are = is ∙ ap (λ (w : List ℕ). count ++ 32 ∷ w) words_are ∙ sym (append_assoc count (32 ∷ text) (10 ∷ []))
+pub behind : (count text words line : List ℕ) → line ≡ count ++ 32 ∷ words → words ≡ text ++ 10 ∷ []
+    → line ≡ count ++ 32 ∷ text ++ 10 ∷ []
+behind count text words line is words_are = is ∙ ap (λ (w : List ℕ). count ++ 32 ∷ w) words_are
+    ∙ sym (append_assoc count (32 ∷ text) (10 ∷ []))
 
 -- the text of a value stands behind the count
 pub told : (labels : Labels) (graph : List Node) (node taken : ℕ) (tape text line : List ℕ)
@@ -58,7 +64,8 @@ told labels graph node taken tape text line of is = record {
   line_is = is ∙ ap (λ (t : List ℕ). decimal taken ++ 32 ∷ t ++ 10 ∷ []) of.text_is;
 }
 
-pub of_run : (fault : RunFault) (fact : Type 0) → OnFalse (run_wants_memory fault) fact → IsOfRun (Other (refusal_of_run fault)) fact
+pub of_run : (fault : RunFault) (fact : Type 0) → OnFalse (run_wants_memory fault) fact
+    → IsOfRun (Other (refusal_of_run fault)) fact
 of_run runs.NoMemory fact h = tt
 of_run fault fact h = h
 
@@ -70,7 +77,8 @@ module _ (labels : Labels) (graph : List Node) (node : ℕ) (ask : Ask) where
   unsaid (texts.Refused fault) h = h
 
   -- the run was refused
-  pub refused_run : (way : Way) (fact : Type 0) → (fact → HasNone way labels graph node ask) → (refusal : TextRefusal) → IsOfRun refusal fact
+  pub refused_run : (way : Way) (fact : Type 0) → (fact → HasNone way labels graph node ask) → (refusal : TextRefusal)
+      → IsOfRun refusal fact
       → IsRefusalAt way labels graph node ask refusal
   refused_run Encode fact none (Other NoMemory) h = tt
   refused_run Decode fact none (Other NoMemory) h = tt
@@ -89,7 +97,8 @@ module _ (labels : Labels) (graph : List Node) (node : ℕ) (ask : Ask) where
   refused_run way fact none (Other (NoReference fault)) h = absurd h
 
   -- the digits are none
-  pub bad_digits : (refusal : Refusal) → OnFalse (wants_memory refusal) ((refusal ≡ BadHex) × IsErr (decode_of ask.input))
+  pub bad_digits : (refusal : Refusal)
+      → OnFalse (wants_memory refusal) ((refusal ≡ BadHex) × IsErr (decode_of ask.input))
       → IsRefusalAt Decode labels graph node ask (Other refusal)
   bad_digits NoMemory h = tt
   bad_digits BadHex h = h.1
@@ -106,18 +115,23 @@ module _ (labels : Labels) (graph : List Node) (node : ℕ) (ask : Ask) where
 
 module _ {A : Type 0} (text_of : A → List ℕ) where
   pub run_refused : (way : Way) (labels : Labels) (graph : List Node) (node : ℕ) (ask : Ask) (fact : Type 0)
-      → (fact → HasNone way labels graph node ask) → (r : Result A TextRefusal) → IfErr r (λ refusal. IsOfRun refusal fact)
+      → (fact → HasNone way labels graph node ask) → (r : Result A TextRefusal)
+      → IfErr r (λ refusal. IsOfRun refusal fact)
       → IfErr r (IsRefusalAt way labels graph node ask)
   run_refused way labels graph node ask fact none (Ok line) h = tt
-  run_refused way labels graph node ask fact none (Err refusal) h = refused_run labels graph node ask way fact none refusal h
+  run_refused way labels graph node ask fact none (Err refusal) h =
+      refused_run labels graph node ask way fact none refusal h
 
-  module _ (table : TableParts) (labels : Labels) (ask : Ask) (node : ℕ) (named : Contains table.model.names (ask.name, node)) where
-    pub line_of : (r : Result A TextRefusal) → IfOk r (λ line. Prints ask.way labels table.model.graph node ask (text_of line))
+  module _ (table : TableParts) (labels : Labels) (ask : Ask) (node : ℕ)
+      (named : Contains table.model.names (ask.name, node)) where
+    pub line_of : (r : Result A TextRefusal)
+        → IfOk r (λ line. Prints ask.way labels table.model.graph node ask (text_of line))
         → IfOk r (λ line. IsTextLine table labels ask (text_of line))
     line_of (Ok line) prints = record { node = node; named = named; prints = prints }
     line_of (Err refusal) prints = tt
 
-    not_named : (refusal : TextRefusal) → IsRefusalAt ask.way labels table.model.graph node ask refusal → IsTextRefusal table labels ask refusal
+    not_named : (refusal : TextRefusal) → IsRefusalAt ask.way labels table.model.graph node ask refusal
+        → IsTextRefusal table labels ask refusal
     not_named (Other (NoType name)) h = absurd (by_way ask.way h) where
       by_way : (way : Way) → IsRefusalAt way labels table.model.graph node ask (Other (NoType name)) → ⊥
       by_way Encode h = h

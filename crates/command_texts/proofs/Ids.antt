@@ -15,7 +15,8 @@ use Rattle.command_texts.specs.Outcomes.{BeginsWithId}
 use Rattle.command_texts.specs.inner.Ids.{IsIdTape}
 
 pub id_tape_is : (answered : Answered) (n : ℕ) (tape : List ℕ)
-    → Means giop_nodes (reading answered.order) 64 26 answered.body_at tape (take n answered.body) → IsIdTape answered tape
+    → Means giop_nodes (reading answered.order) 64 26 answered.body_at tape (take n answered.body)
+    → IsIdTape answered tape
 id_tape_is answered n tape means = record {
   front = take n answered.body;
   rest = drop n answered.body;
@@ -24,7 +25,8 @@ id_tape_is answered n tape means = record {
 }
 
 pub no_id : (order : Order) (place : ℕ) (octets : List ℕ)
-    → ((tape front rest : List ℕ) → octets ≡ front ++ rest → Means giop_nodes (reading order) 64 26 place tape front → ⊥)
+    → ((tape front rest : List ℕ) → octets ≡ front ++ rest → Means giop_nodes (reading order) 64 26 place tape front
+    → ⊥)
     → (id : List ℕ) → BeginsWithId order place octets id → ⊥
 no_id order place octets none id b = none (counted id) b.front b.rest b.octets_are b.means
 
@@ -64,7 +66,8 @@ id_read answered tape id rest r c e =
       front = r.front;
       rest = r.rest;
       octets_are = r.octets_are;
-      means = subst (λ (t : List ℕ). Means giop_nodes (reading answered.order) 64 26 answered.body_at t r.front) tape_is r.means;
+      means = subst (λ (t : List ℕ). Means giop_nodes (reading answered.order) 64 26 answered.body_at t r.front) tape_is
+          r.means;
     }
 
 pub id_is_there : (answered : Answered) (tape : List ℕ) → IsIdTape answered tape

@@ -14,12 +14,12 @@ ghost use Rattle.value_text.specs.Tapes.{IsTape};
 ghost use Rattle.command_tables.specs.declared.values.Way.TheVariants.{Encode, Decode};
 
 use crate::refusal::TextRefusal;
+use command_tables::{Refusal, ValueRequest, Way, octets_line, octets_of};
 use idl_value::Value;
-use type_model::part_names::PartNames;
 use position_checker::Accepted;
 use std::alloc::{AllocError, Global};
-use command_tables::{Refusal, ValueRequest, Way, octets_line, octets_of};
 use type_graph::Graph;
+use type_model::part_names::PartNames;
 use value_text::{packed, printed, read};
 
 /// The octets of a value, as a line.

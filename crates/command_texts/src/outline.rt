@@ -1,12 +1,12 @@
 //! What the text of a value of each type looks like.
 
-use type_model::part_names::{NodeNames, PartNames};
+use command_tables::Escaped;
 use position_checker::Accepted;
 use std::alloc::{AllocError, Global};
 use std::fmt;
-use command_tables::Escaped;
 use type_graph::{Graph, Node, Width};
 use type_model::Model;
+use type_model::part_names::{NodeNames, PartNames};
 use value_text::refers;
 
 /// The types of a table: their names, by the numbers of their nodes, and those of their parts.

@@ -4,9 +4,9 @@ ghost use Rattle.std.specs.Prelude.{◌≡◌};
 ghost use Rattle.command_texts.specs.declared.refusal.TextRefusal.TheVariants.{Other};
 ghost use Rattle.command_texts.specs.Refusal.{no_memory, refusal_of_read};
 
+use command_tables::Refusal;
 use program_runner::RunFault;
 use std::alloc::AllocError;
-use command_tables::Refusal;
 use thiserror::Error;
 use value_text::{ReadFault, Refusal as TextFault};
 

@@ -9,7 +9,7 @@ use Rattle.type_graph.specs.declared.width.Order.TheVariants.{Big, Little}
 use Rattle.command_words.specs.Ask.{CallAsk, call_ask_of}
 use Rattle.command_words.specs.declared.task.CallTask.{CallTask}
 use Rattle.command_words.specs.Words.{TellsCall, TellsOption, TellsOrder, word_of, word_of_flag}
-use Rattle.command_words.proofs.Requests.{different, order_of, same_some}
+use Rattle.command_words.proofs.FoundRequests.{different, order_of, same_some}
 
 module _ (found : Found) where
   -- the number is that of the option, or that of none
@@ -19,13 +19,15 @@ module _ (found : Found) where
       → (one_text found id ≡ None → result ≡ of_none) → result ≡ number
   number_is id of_none number result (inl whole) some none =
       sym (some whole.digits (one_text-rows found id ∙ whole.found) whole.numeral (rw whole.is whole.fits)) ∙ whole.is
-  number_is id of_none number result (inr left_out) some none = none (one_text-rows found id ∙ left_out.0) ∙ sym left_out.1
+  number_is id of_none number result (inr left_out) some none = none (one_text-rows found id ∙ left_out.0)
+      ∙ sym left_out.1
 
   no_little : (order : Order) → (order ≡ Little) ↔ (first_value found (codes "order") ≡ Some (codes "little"))
       → first_of (codes "order") (rows_of found) ≡ None → order ≡ Big
   no_little Big little none = refl
   no_little Little little none =
-      let bad : Some (codes "little") ≡ None = sym (little.0 refl) ∙ first_value-rows found (codes "order") ∙ none in absurd cc
+      let bad : Some (codes "little") ≡ None = sym (little.0 refl) ∙ first_value-rows found (codes "order") ∙ none in
+      absurd cc
 
   -- so the byte order
   pub order_is : (order result : Order) → TellsOrder (rows_of found) order
@@ -35,7 +37,8 @@ module _ (found : Found) where
 
   -- a flag that stands there, or doesn't
   pub flag_is : (id : Text) (flag result : Bool) → one_of id (rows_of found) ≡ Some (word_of_flag flag)
-      → (one_text found id ≡ Some (codes "true") → result ≡ true) → (one_text found id ≡ Some (codes "false") → result ≡ false) → result ≡ flag
+      → (one_text found id ≡ Some (codes "true") → result ≡ true)
+      → (one_text found id ≡ Some (codes "false") → result ≡ false) → result ≡ flag
   flag_is id true result is on off = on (one_text-rows found id ∙ is)
   flag_is id false result is on off = off (one_text-rows found id ∙ is)
 

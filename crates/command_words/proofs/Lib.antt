@@ -5,5 +5,5 @@ pub mod Glued
 pub mod Inputs
 pub mod Mistakes
 pub mod References
-pub mod Requests
+pub mod FoundRequests
 pub mod Worked

@@ -7,14 +7,15 @@ use Rattle.clap.proofs.WalkLemmas.{first_value-rows, one_text-rows}
 use Rattle.command_words.specs.declared.task.ReferenceTask.{ReferenceTask}
 use Rattle.command_words.specs.Ask.{Reference, ReferenceAsk, reference_ask_of}
 use Rattle.command_words.specs.Words.{TellsReference}
-use Rattle.command_words.proofs.Requests.{same_some, some_since}
+use Rattle.command_words.proofs.FoundRequests.{same_some, some_since}
 
 module _ (found : Found) where
   -- the reference has what was found for each word
   pub record IsRequest (asked : ReferenceTask) : Type 0 where
     pub table : first_value found (codes "T") ≡ Some asked.table.now
     pub host : first_value found (codes "host") ≡ Some asked.wanted.host.now
-    pub port : (text : Text) → one_text found (codes "port") ≡ Some text → digits_value 10 (without_leading_plus text) ≡ asked.wanted.port
+    pub port : (text : Text) → one_text found (codes "port") ≡ Some text
+        → digits_value 10 (without_leading_plus text) ≡ asked.wanted.port
     pub object : first_value found (codes "object") ≡ Some asked.wanted.object.now
 
   -- nothing is missing where each word was found
@@ -38,17 +39,21 @@ module _ (found : Found) where
         let table : asked.table.now ≡ ask.table = same_some _ _ _ is.table (found_first _ _ tells.table) in
         let host : asked.wanted.host.now ≡ ask.parts.host = same_some _ _ _ is.host (found_first _ _ tells.host) in
         let port : asked.wanted.port ≡ ask.parts.port = sym (is.port tells.port.digits digits_are) ∙ tells.port.is in
-        let object : asked.wanted.object.now ≡ ask.parts.object = same_some _ _ _ is.object (found_first _ _ tells.object) in
+        let object : asked.wanted.object.now ≡ ask.parts.object =
+        same_some _ _ _ is.object (found_first _ _ tells.object) in
         rw (table, host, port, object) refl
 
     some_asked : (result : Option ReferenceTask) → IsWhole result → IsSome result
-    some_asked result whole = whole (some_since _ _ (found_first _ _ tells.table)) (some_since _ _ (found_first _ _ tells.host))
-        (some_since _ _ (found_first _ _ tells.object)) tells.port.digits digits_are tells.port.numeral (rw tells.port.is tells.port.fits)
+    some_asked result whole =
+        whole (some_since _ _ (found_first _ _ tells.table)) (some_since _ _ (found_first _ _ tells.host))
+        (some_since _ _ (found_first _ _ tells.object)) tells.port.digits digits_are tells.port.numeral
+        (rw tells.port.is tells.port.fits)
 
     pub asked : (result : Option ReferenceTask) → IsWhole result
         → IfSome result (λ asked. first_value found (codes "T") ≡ Some asked.table.now)
         → IfSome result (λ asked. first_value found (codes "host") ≡ Some asked.wanted.host.now)
-        → IfSome result (λ asked. (text : Text) → one_text found (codes "port") ≡ Some text → digits_value 10 (without_leading_plus text) ≡ asked.wanted.port)
+        → IfSome result (λ asked. (text : Text) → one_text found (codes "port") ≡ Some text
+        → digits_value 10 (without_leading_plus text) ≡ asked.wanted.port)
         → IfSome result (λ asked. first_value found (codes "object") ≡ Some asked.wanted.object.now)
         → IsSomeAnd result (λ asked. Some (Reference (reference_ask_of asked)) ≡ Some (Reference ask))
     asked None whole table host port object = let bad : false ≡ true = some_asked None whole in absurd cc

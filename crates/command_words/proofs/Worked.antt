@@ -43,11 +43,13 @@ abbrev unasked : Row
 unasked = record (row_by AsBool (codes "explain") (codes "false")) { source = Some DefaultValue }
 
 abbrev found : List Row
-found = row (codes "T") (codes "builtin") ∷ row (codes "NAME") (codes "S") ∷ row (codes "ORDER") (codes "big") ∷ row (codes "POS") (codes "12")
+found = row (codes "T") (codes "builtin") ∷ row (codes "NAME") (codes "S") ∷ row (codes "ORDER") (codes "big")
+    ∷ row (codes "POS") (codes "12")
     ∷ row (codes "HEX") (codes "07") ∷ unasked ∷ []
 
 module _ (orders : Bor (List (Bor Text))) (are : texts orders.now ≡ codes "big" ∷ codes "little" ∷ []) where
-  any_big : (names : List (Bor Text)) → texts names ≡ codes "big" ∷ codes "little" ∷ [] → list_any (λ name. bytes_eq name.now (codes "big")) names ≡ true
+  any_big : (names : List (Bor Text)) → texts names ≡ codes "big" ∷ codes "little" ∷ []
+      → list_any (λ name. bytes_eq name.now (codes "big")) names ≡ true
   any_big [] names_are = absurd cc
   any_big (first ∷ rest) names_are =
       let first_is : first.now ≡ codes "big" = cc in rw first_is refl
@@ -92,7 +94,8 @@ words_ask orders takes_orders = rw takes_orders.is_of_names (is_read takes_order
 
 -- a text that begins with a minus
 abbrev dashed_words : List Text
-dashed_words = codes "idlc" ∷ codes "encode" ∷ codes "t.idl" ∷ codes "T" ∷ codes "big" ∷ codes "12" ∷ codes "--text" ∷ codes "-5" ∷ []
+dashed_words = codes "idlc" ∷ codes "encode" ∷ codes "t.idl" ∷ codes "T" ∷ codes "big" ∷ codes "12" ∷ codes "--text"
+    ∷ codes "-5" ∷ []
 
 abbrev dashed_ask : Ask
 dashed_ask = Value (record {
@@ -102,7 +105,8 @@ dashed_ask = Value (record {
 })
 
 abbrev dashed_found : List Row
-dashed_found = row (codes "T") (codes "t.idl") ∷ row (codes "NAME") (codes "T") ∷ row (codes "ORDER") (codes "big") ∷ row (codes "POS") (codes "12")
+dashed_found = row (codes "T") (codes "t.idl") ∷ row (codes "NAME") (codes "T") ∷ row (codes "ORDER") (codes "big")
+    ∷ row (codes "POS") (codes "12")
     ∷ row (codes "text") (codes "-5") ∷ unasked ∷ []
 
 module _ (orders : Bor (List (Bor Text))) (are : texts orders.now ≡ codes "big" ∷ codes "little" ∷ []) where
@@ -110,7 +114,8 @@ module _ (orders : Bor (List (Bor Text))) (are : texts orders.now ≡ codes "big
   unfolding clap_on_literals
   dashed_taken = ap (λ b. b && true && true && true && true) (any_big orders are orders.now are)
 
-  is_dashed_encode : subcommand_of (program_app (Names orders)) (spoken dashed_words) ≡ Some (codes "encode", dashed_found)
+  is_dashed_encode : subcommand_of (program_app (Names orders)) (spoken dashed_words)
+      ≡ Some (codes "encode", dashed_found)
   unfolding clap_on_literals
   is_dashed_encode = refl
 
@@ -141,10 +146,12 @@ module _ (orders : Bor (List (Bor Text))) (are : texts orders.now ≡ codes "big
   }
 
 pub dashed_words_ask : AsksFor dashed_words dashed_ask
-dashed_words_ask orders takes_orders = rw takes_orders.is_of_names (dashed_read takes_orders.names takes_orders.are_orders)
+dashed_words_ask orders takes_orders =
+    rw takes_orders.is_of_names (dashed_read takes_orders.names takes_orders.are_orders)
 
 abbrev reference_words : List Text
-reference_words = codes "idlc" ∷ codes "ior" ∷ codes "builtin" ∷ codes "--host" ∷ codes "h" ∷ codes "--port" ∷ codes "99" ∷ codes "--object"
+reference_words = codes "idlc" ∷ codes "ior" ∷ codes "builtin" ∷ codes "--host" ∷ codes "h" ∷ codes "--port"
+    ∷ codes "99" ∷ codes "--object"
     ∷ codes "K=P" ∷ []
 
 abbrev reference_ask : Ask
@@ -154,7 +161,8 @@ reference_ask = Reference (record {
 })
 
 abbrev reference_found : List Row
-reference_found = row (codes "T") (codes "builtin") ∷ row (codes "host") (codes "h") ∷ row_by (Signed (pos 0) (pos 65535)) (codes "port") (codes "99")
+reference_found = row (codes "T") (codes "builtin") ∷ row (codes "host") (codes "h")
+    ∷ row_by (Signed (pos 0) (pos 65535)) (codes "port") (codes "99")
     ∷ row (codes "object") (codes "K=P") ∷ unasked ∷ []
 
 abbrev explain_words : List Text
@@ -263,11 +271,13 @@ call_ask = record {
 }
 
 abbrev call_found : List Row
-call_found = row (codes "T") (codes "t") ∷ row (codes "IOR") (codes "@r") ∷ row (codes "OP") (codes "ping") ∷ unasked ∷ []
+call_found = row (codes "T") (codes "t") ∷ row (codes "IOR") (codes "@r") ∷ row (codes "OP") (codes "ping") ∷ unasked
+    ∷ []
 
 -- one with a value, three seconds, five times
 abbrev long_call_words : List Text
-long_call_words = codes "idlc" ∷ codes "call" ∷ codes "t" ∷ codes "-" ∷ codes "add" ∷ codes "[1]" ∷ codes "--wait" ∷ codes "3" ∷ codes "--repeat"
+long_call_words = codes "idlc" ∷ codes "call" ∷ codes "t" ∷ codes "-" ∷ codes "add" ∷ codes "[1]" ∷ codes "--wait"
+    ∷ codes "3" ∷ codes "--repeat"
     ∷ codes "5" ∷ []
 
 abbrev long_call_ask : CallAsk
@@ -282,8 +292,10 @@ long_call_ask = record {
 }
 
 abbrev long_call_found : List Row
-long_call_found = row (codes "T") (codes "t") ∷ row (codes "IOR") (codes "-") ∷ row (codes "OP") (codes "add") ∷ row (codes "VALUE") (codes "[1]")
-    ∷ row_by (Signed (pos 1) (pos 86400)) (codes "wait") (codes "3") ∷ row_by (Signed (pos 1) (pos 4294967295)) (codes "repeat") (codes "5")
+long_call_found = row (codes "T") (codes "t") ∷ row (codes "IOR") (codes "-") ∷ row (codes "OP") (codes "add")
+    ∷ row (codes "VALUE") (codes "[1]")
+    ∷ row_by (Signed (pos 1) (pos 86400)) (codes "wait") (codes "3")
+    ∷ row_by (Signed (pos 1) (pos 4294967295)) (codes "repeat") (codes "5")
     ∷ unasked ∷ []
 
 module _ (orders : Bor (List (Bor Text))) where
@@ -369,7 +381,8 @@ abbrev dump_ask : DumpAsk
 dump_ask = record { table = codes "t"; file = None; back = None; follow = false }
 
 abbrev dump_found : List Row
-dump_found = row (codes "T") (codes "t") ∷ unasked ∷ record (row_by AsBool (codes "follow") (codes "false")) { source = Some DefaultValue } ∷ []
+dump_found = row (codes "T") (codes "t") ∷ unasked ∷ record (row_by AsBool (codes "follow") (codes "false"))
+    { source = Some DefaultValue } ∷ []
 
 -- one in two files that go on
 abbrev two_files_words : List Text
@@ -411,7 +424,13 @@ module _ (orders : Bor (List (Bor Text))) where
   dump_read = record { taken = dump_taken; rows = dump_found; command = is_dump; tells = dump_tells }
 
   pub two_files_read : IsReadAsDump (program_app (Names orders)) two_files_words two_files_ask
-  two_files_read = record { taken = two_files_taken; rows = two_files_found; command = is_two_files; tells = two_files_tells }
+  two_files_read = record {
+    taken = two_files_taken;
+    rows = two_files_found;
+    command = is_two_files;
+    tells =
+        two_files_tells;
+  }
 
 pub dump_words_ask : AsksForDump dump_words dump_ask
 dump_words_ask orders takes_orders = rw takes_orders.is_of_names (dump_read takes_orders.names)

@@ -19,18 +19,24 @@ pub longer_level : {T : Type 0} (yield : T → List Piece) (levels : T → ℕ) 
 longer_level yield levels room b c xs ys most one = one_more_level levels room xs ys one.part most one.few one.is
 
 -- a list is not empty then
-pub some_more : {T : Type 0} (yield : T → List Piece) (levels : T → ℕ) (room : ℕ) (b c : List Seen) (xs ys : List T) → Added yield levels room xs ys b c → 0 < length ys
+pub some_more : {T : Type 0} (yield : T → List Piece) (levels : T → ℕ) (room : ℕ) (b c : List Seen) (xs ys : List T)
+    → Added yield levels room xs ys b c → 0 < length ys
 some_more yield levels room b c xs ys one = omega (arith, ap length one.is ∙ length-append xs (one.part ∷ []))
 
 -- a part that was read and is added
-pub added : {T V E : Type 0} (yield : T → List Piece) (levels : T → ℕ) (room : ℕ) (a b : List Seen) (before after : List T) (part : T) (r : Result V E)
-    → Parsed a (yield part) b → levels part ≤ room → IfOk r (λ _. after ≡ before ++ part ∷ []) → IfOk r (λ _. Added yield levels room before after a b)
-added yield levels room a b before after part (Ok v) spelled few is = record { part = part; is = is; spells = spelled; few = few }
+pub added : {T V E : Type 0} (yield : T → List Piece) (levels : T → ℕ) (room : ℕ) (a b : List Seen)
+    (before after : List T) (part : T) (r : Result V E)
+    → Parsed a (yield part) b → levels part ≤ room → IfOk r (λ _. after ≡ before ++ part ∷ [])
+    → IfOk r (λ _. Added yield levels room before after a b)
+added yield levels room a b before after part (Ok v) spelled few is =
+    record { part = part; is = is; spells = spelled; few = few }
 added yield levels room a b before after part (Err e) spelled few is = tt
 
 -- the same, where a mark is taken then
-pub added_ended : {T V E : Type 0} (yield : T → List Piece) (levels : T → ℕ) (room : ℕ) (a b c : List Seen) (front end : List Piece) (before after : List T) (part : T) (r : Result V E)
-    → Parsed a front b → yield part ≡ front ++ end → levels part ≤ room → after ≡ before ++ part ∷ [] → IfOk r (λ _. Parsed b end c)
+pub added_ended : {T V E : Type 0} (yield : T → List Piece) (levels : T → ℕ) (room : ℕ) (a b c : List Seen)
+    (front end : List Piece) (before after : List T) (part : T) (r : Result V E)
+    → Parsed a front b → yield part ≡ front ++ end → levels part ≤ room → after ≡ before ++ part ∷ []
+    → IfOk r (λ _. Parsed b end c)
     → IfOk r (λ _. Added yield levels room before after a c)
 added_ended yield levels room a b c front end before after part (Ok v) spelled e few is ended =
     record { part = part; is = is; spells = spelled_as (sym e) (part_then spelled ended); few = few }

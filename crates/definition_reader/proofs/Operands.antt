@@ -7,11 +7,13 @@ use Rattle.idl_tree.proofs.Chains.{looser}
 use Rattle.std.specs.List.{AllByRecursion}
 
 -- one more part of which a fact holds
-all_at_end : {T : Type 0} (P : T → Type 0) (xs : List T) (x : T) → AllByRecursion P xs → P x → AllByRecursion P (xs ++ x ∷ [])
+all_at_end : {T : Type 0} (P : T → Type 0) (xs : List T) (x : T) → AllByRecursion P xs → P x
+    → AllByRecursion P (xs ++ x ∷ [])
 all_at_end P [] x all one = (one, tt)
 all_at_end P (y ∷ ys) x all one = (all.0, all_at_end P ys x all.1 one)
 
-pub all_more : {T : Type 0} (P : T → Type 0) (xs ys : List T) (x : T) → AllByRecursion P xs → P x → ys ≡ xs ++ x ∷ [] → AllByRecursion P ys
+pub all_more : {T : Type 0} (P : T → Type 0) (xs ys : List T) (x : T) → AllByRecursion P xs → P x → ys ≡ xs ++ x ∷ []
+    → AllByRecursion P ys
 all_more P xs ys x all one e = subst (AllByRecursion P) (sym e) (all_at_end P xs x all one)
 
 -- an operand without a sign is one that may have one

@@ -16,7 +16,8 @@ pub group_three : (p x y z : List Piece) → p ++ (x ++ y ++ z) ≡ p ++ x ++ y 
 group_three p x y z = group_two p (x ++ y) z ∙ ap (λ l. l ++ z) (group_two p x y)
 
 -- what holds of a part that was read holds of it where it is handed on
-pub handed : {T E F : Type 0} (P : T → Type 0) (read : Result T E) (r : Result T F) → IfOk read P → IfOk r (λ p. read ≡ Ok p) → IfOk r P
+pub handed : {T E F : Type 0} (P : T → Type 0) (read : Result T E) (r : Result T F) → IfOk read P
+    → IfOk r (λ p. read ≡ Ok p) → IfOk r P
 handed P read (Ok p) all same = subst (λ r. IfOk r P) same all
 handed P read (Err e) all same = tt
 
@@ -33,7 +34,8 @@ levels_by levels most room (Ok n) is few = omega (arith, is, few)
 levels_by levels most room (Err e) is few = tt
 
 -- levels inside another one
-pub under_suc : {T E : Type 0} (levels : T → ℕ) (left room : ℕ) (r : Result T E) → suc left ≡ room → IfOk r (λ n. levels n ≤ left) → IfOk r (λ n. levels n < room)
+pub under_suc : {T E : Type 0} (levels : T → ℕ) (left room : ℕ) (r : Result T E) → suc left ≡ room
+    → IfOk r (λ n. levels n ≤ left) → IfOk r (λ n. levels n < room)
 under_suc levels left room (Ok n) is few = omega (arith, is, few)
 under_suc levels left room (Err e) is few = tt
 

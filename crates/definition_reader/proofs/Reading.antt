@@ -31,7 +31,8 @@ pub past_none : (tokens : Option (List Seen)) → past [] tokens ≡ tokens
 unfolding past
 past_none tokens = refl
 
-pub highest_more : {T : Type 0} (levels : T → ℕ) (xs : List T) (x : T) → highest levels (xs ++ x ∷ []) ≡ max (highest levels xs) (levels x)
+pub highest_more : {T : Type 0} (levels : T → ℕ) (xs : List T) (x : T)
+    → highest levels (xs ++ x ∷ []) ≡ max (highest levels xs) (levels x)
 highest_more levels [] x = omega arith
 highest_more levels (y ∷ ys) x = omega (arith, highest_more levels ys x)
 
@@ -61,7 +62,8 @@ first_plain : (n : ℕ) (t : Token) (ts : List Token) (kind : Kind) (text : List
     → Parsed (seen_from n (t ∷ ts)) (piece kind text) (seen_from (n + 1) ts)
 unfolding piece past
 first_plain n t ts kind text k e = record {
-  spells = behind_this (plain_piece kind text false) (see n t ts) (seen_from (n + 1) ts) (both (both (both (this_kind t kind k) (this_text t text e)) refl) refl);
+  spells = behind_this (plain_piece kind text false) (see n t ts) (seen_from (n + 1) ts)
+      (both (both (both (this_kind t kind k) (this_text t text e)) refl) refl);
   on = omega arith;
 }
 
@@ -85,7 +87,8 @@ plain_read n (x ∷ ys) t kind text lt is k e =
 -- a token is the same as itself
 same_itself : (t : TokenParts) → are_same t t ≡ true
 same_itself t =
-    both (both (both (both ((Decides-eqb (kind_code t.kind) (kind_code t.kind)).1 refl) ((bytes_eq-Decides t.text t.text).1 refl))
+    both (both (both (both ((Decides-eqb (kind_code t.kind) (kind_code t.kind)).1 refl)
+    ((bytes_eq-Decides t.text t.text).1 refl))
     ((Decides-eqb t.start t.start).1 refl)) ((Decides-eqb t.«end» t.«end»).1 refl)) ((Decides-eqb t.line t.line).1 refl)
 
 -- a token that is kept
@@ -94,8 +97,10 @@ first_kept : (n : ℕ) (t : Token) (ts : List Token) (kind : Kind) (text : List 
     → Parsed (seen_from n (t ∷ ts)) (kept kind text l) (seen_from (n + 1) ts)
 unfolding kept past
 first_kept n t ts kind text l k e num tok = record {
-  spells = behind_this (kept_piece kind text l) (see n t ts) (seen_from (n + 1) ts) (both (both (both (this_kind t kind k) (this_text t text e))
-      (both ((Decides-eqb l.number n).1 num) (subst (λ u. are_same (parts_of u) (parts_of t) ≡ true) (sym tok) (same_itself (parts_of t))))) refl);
+  spells = behind_this (kept_piece kind text l) (see n t ts) (seen_from (n + 1) ts)
+      (both (both (both (this_kind t kind k) (this_text t text e))
+      (both ((Decides-eqb l.number n).1 num)
+      (subst (λ u. are_same (parts_of u) (parts_of t) ≡ true) (sym tok) (same_itself (parts_of t))))) refl);
   on = omega arith;
 }
 
@@ -108,11 +113,13 @@ kept_read n (x ∷ ys) kind text l lt is k e num =
     (first_kept n x ys kind text l (sym (ap (λ u. u.kind) is) ∙ k) (sym (ap (λ u. u.text.now) is) ∙ e) num is)
 
 -- a mark that the next token touches
-first_touching : (n : ℕ) (t u : Token) (us : List Token) (text : List ℕ) → t.kind ≡ Punct → t.text.now ≡ text → end_of t ≡ u.start
+first_touching : (n : ℕ) (t u : Token) (us : List Token) (text : List ℕ) → t.kind ≡ Punct → t.text.now ≡ text
+    → end_of t ≡ u.start
     → Parsed (seen_from n (t ∷ u ∷ us)) (touching text) (seen_from (n + 1) (u ∷ us))
 unfolding touching past
 first_touching n t u us text k e touch = record {
-  spells = behind_this (plain_piece Punct text true) (see n t (u ∷ us)) (seen_from (n + 1) (u ∷ us)) (both (both (both (this_kind t Punct k) (this_text t text e)) refl) ((Decides-eqb (end_of t) u.start).1 touch));
+  spells = behind_this (plain_piece Punct text true) (see n t (u ∷ us)) (seen_from (n + 1) (u ∷ us))
+      (both (both (both (this_kind t Punct k) (this_text t text e)) refl) ((Decides-eqb (end_of t) u.start).1 touch));
   on = omega arith;
 }
 
@@ -128,9 +135,11 @@ touching_read n (x ∷ y ∷ ys) t u text is lt more k e touch =
 
 -- ---- lists
 
-yields_more : {T : Type 0} (yield : T → List Piece) (xs : List T) (x : T) → flat_map yield (xs ++ x ∷ []) ≡ flat_map yield xs ++ yield x
+yields_more : {T : Type 0} (yield : T → List Piece) (xs : List T) (x : T)
+    → flat_map yield (xs ++ x ∷ []) ≡ flat_map yield xs ++ yield x
 yields_more yield [] x = append-nil (yield x)
-yields_more yield (y ∷ ys) x = ap (λ l. yield y ++ l) (yields_more yield ys x) ∙ sym (append_assoc (yield y) (flat_map yield ys) (yield x))
+yields_more yield (y ∷ ys) x = ap (λ l. yield y ++ l) (yields_more yield ys x)
+    ∙ sym (append_assoc (yield y) (flat_map yield ys) (yield x))
 
 pub then_read : (a b c : List Seen) (xs ys : List Piece) → Parsed a xs b → Parsed b ys c → Parsed a (xs ++ ys) c
 then_read a b c xs ys front back = record {
@@ -142,7 +151,8 @@ then_read a b c xs ys front back = record {
 pub one_more : {T : Type 0} (yield : T → List Piece) (a b c : List Seen) (xs ys : List T) (x : T)
     → Continued a (flat_map yield xs) b → Parsed b (yield x) c → ys ≡ xs ++ x ∷ [] → Continued a (flat_map yield ys) c
 one_more yield a b c xs ys x front part e = record {
-  spells = ap (λ l. past (flat_map yield l) (Some a)) e ∙ ap (λ l. past l (Some a)) (yields_more yield xs x) ∙ past_append (flat_map yield xs) (yield x) (Some a) ∙ ap (past (yield x)) front.spells ∙ part.spells;
+  spells = ap (λ l. past (flat_map yield l) (Some a)) e ∙ ap (λ l. past l (Some a)) (yields_more yield xs x)
+      ∙ past_append (flat_map yield xs) (yield x) (Some a) ∙ ap (past (yield x)) front.spells ∙ part.spells;
   on = omega (arith, front.on, part.on);
 }
 
@@ -158,13 +168,15 @@ pub alone_read : (root : Option Leaf) (first : Leaf) (more : List Leaf) (a b c d
 alone_read (Some r) first more a b c d none empty p q r' = absurd cc
 alone_read None first (x ∷ xs) a b c d none empty p q r = absurd (omega arith)
 alone_read None first [] a b c d none empty p q r = record {
-  spells = ap (past (identifier first)) (sym (past_none (Some a)) ∙ p.spells) ∙ q.spells ∙ sym (past_none (Some c)) ∙ r.spells;
+  spells = ap (past (identifier first)) (sym (past_none (Some a)) ∙ p.spells) ∙ q.spells ∙ sym (past_none (Some c))
+      ∙ r.spells;
   on = omega (arith, p.on, q.on, r.on);
 }
 
 -- ---- an empty list
 
-pub none_read : {T : Type 0} (yield : T → List Piece) (xs : List T) (tokens : List Seen) → xs ≡ [] → Continued tokens (flat_map yield xs) tokens
+pub none_read : {T : Type 0} (yield : T → List Piece) (xs : List T) (tokens : List Seen) → xs ≡ []
+    → Continued tokens (flat_map yield xs) tokens
 none_read yield [] tokens e = record { spells = past_none (Some tokens); on = omega arith }
 none_read yield (x ∷ xs) tokens e = absurd cc
 

@@ -39,7 +39,8 @@ ends_at o more e (inr h) = inr (ap (λ w. and_then w more) h)
 pub ends_so : (o p : Way) (e : Stop) → p ≡ o → Ends o e → Ends p e
 ends_so o p e same h = subst (λ w. Ends w e) (sym same) h
 
-pub ends_past : (o : Way) (more : List Seen → Way) (t : List Seen) (e : Stop) → o ≡ Some t → Ends (more t) e → Ends (and_then o more) e
+pub ends_past : (o : Way) (more : List Seen → Way) (t : List Seen) (e : Stop) → o ≡ Some t → Ends (more t) e
+    → Ends (and_then o more) e
 ends_past o more t e same h = ends_so (more t) (and_then o more) e (goes_past o more t same) h
 
 pub where_is : (b : Bool) (on off : Way) → b ≡ true → where_seen b on off ≡ on
@@ -61,7 +62,8 @@ pub halts : {o : Way} {e : Stop} (more : List Seen → Way) → Ends o e → End
 halts {o = o} {e = e} more h = ends_at o more e h
 
 -- a step that was taken, before one that wasn't
-pub past : {o : Way} {t : List Seen} {e : Stop} (more : List Seen → Way) → o ≡ Some t → Ends (more t) e → Ends (and_then o more) e
+pub past : {o : Way} {t : List Seen} {e : Stop} (more : List Seen → Way) → o ≡ Some t → Ends (more t) e
+    → Ends (and_then o more) e
 past {o = o} {t = t} {e = e} more same h = ends_past o more t e same h
 
 pub seen : {b : Bool} {here v : Way} (other : Way) → b ≡ true → here ≡ v → where_seen b here other ≡ v
@@ -70,11 +72,15 @@ seen {b = b} {here = here} other e h = where_is b here other e ∙ h
 pub unseen : {b : Bool} {other v : Way} (here : Way) → b ≡ false → other ≡ v → where_seen b here other ≡ v
 unseen {b = b} {other = other} here e h = where_is_not b here other e ∙ h
 
-pub halts_seen : {b : Bool} {here : Way} {e : Stop} (other : Way) → b ≡ true → Ends here e → Ends (where_seen b here other) e
-halts_seen {b = b} {here = here} {e = e} other same h = ends_so here (where_seen b here other) e (where_is b here other same) h
+pub halts_seen : {b : Bool} {here : Way} {e : Stop} (other : Way) → b ≡ true → Ends here e
+    → Ends (where_seen b here other) e
+halts_seen {b = b} {here = here} {e = e} other same h =
+    ends_so here (where_seen b here other) e (where_is b here other same) h
 
-pub halts_unseen : {b : Bool} {other : Way} {e : Stop} (here : Way) → b ≡ false → Ends other e → Ends (where_seen b here other) e
-halts_unseen {b = b} {other = other} {e = e} here same h = ends_so other (where_seen b here other) e (where_is_not b here other same) h
+pub halts_unseen : {b : Bool} {other : Way} {e : Stop} (here : Way) → b ≡ false → Ends other e
+    → Ends (where_seen b here other) e
+halts_unseen {b = b} {other = other} {e = e} here same h =
+    ends_so other (where_seen b here other) e (where_is_not b here other same) h
 
 -- ---- parts one after another
 
@@ -139,7 +145,8 @@ unfolding sees_kind
 first_sees_kind kind n [] t lt is = absurd (omega arith)
 first_sees_kind kind n (x ∷ xs) t lt is = ap (λ u. this_kind kind u) (sym is)
 
-pub none_sees : (kind : Kind) (text : List ℕ) (n : ℕ) (xs : List Token) → length xs ≤ 0 → sees kind text (seen_from n xs) ≡ false
+pub none_sees : (kind : Kind) (text : List ℕ) (n : ℕ) (xs : List Token) → length xs ≤ 0
+    → sees kind text (seen_from n xs) ≡ false
 unfolding sees
 none_sees kind text n [] h = refl
 none_sees kind text n (x ∷ xs) h = absurd (omega arith)
@@ -164,7 +171,8 @@ no_third n (x ∷ []) h = refl
 no_third n (x ∷ y ∷ []) h = refl
 no_third n (x ∷ y ∷ z ∷ zs) h = absurd (omega arith)
 
-pub first_behind : (n : ℕ) (xs : List Token) → 0 < length xs → behind_next (seen_from n xs) ≡ Some (seen_from (n + 1) (cut xs))
+pub first_behind : (n : ℕ) (xs : List Token) → 0 < length xs
+    → behind_next (seen_from n xs) ≡ Some (seen_from (n + 1) (cut xs))
 unfolding behind_next
 first_behind n [] lt = absurd (omega arith)
 first_behind n (x ∷ ys) lt =
@@ -180,7 +188,8 @@ unfolding only_if
 only_false b w e = ap (λ c. only_if c w) e
 
 -- what a token is that a test found
-pub token_is : (kind : Kind) (text : List ℕ) (t : Token) → this_token kind text t ≡ true → (t.kind ≡ kind) × (t.text.now ≡ text)
+pub token_is : (kind : Kind) (text : List ℕ) (t : Token) → this_token kind text t ≡ true
+    → (t.kind ≡ kind) × (t.text.now ≡ text)
 token_is kind text t h =
     let both = and_parts (this_kind kind t) (bytes_eq text t.text.now) h in
     (sym (same_kind kind t.kind both.0), sym ((bytes_eq-Decides text t.text.now).0 both.1))
@@ -206,24 +215,30 @@ no_touch true false = refl
 no_touch false true = refl
 no_touch false false = refl
 
-touches_so : (text : List ℕ) (n : ℕ) (xs : List Token) (t u : Token) → t ≡ get_or xs 0 t → 1 < length xs → u ≡ get_or xs 1 u
+touches_so : (text : List ℕ) (n : ℕ) (xs : List Token) (t u : Token) → t ≡ get_or xs 0 t → 1 < length xs
+    → u ≡ get_or xs 1 u
     → sees_touching text (seen_from n xs) ≡ (this_kind Punct t && bytes_eq text t.text.now && nat_eq (end_of t) u.start)
 unfolding sees_touching
 touches_so text n [] t u is lt more = absurd (omega arith)
 touches_so text n (x ∷ []) t u is lt more = absurd (omega arith)
 touches_so text n (x ∷ y ∷ ys) t u is lt more = rw (is, more) refl
 
-pub touches : (text : List ℕ) (n : ℕ) (xs : List Token) (t u : Token) → t ≡ get_or xs 0 t → 1 < length xs → u ≡ get_or xs 1 u
+pub touches : (text : List ℕ) (n : ℕ) (xs : List Token) (t u : Token) → t ≡ get_or xs 0 t → 1 < length xs
+    → u ≡ get_or xs 1 u
     → this_token Punct text t ≡ true → sees_touching text (seen_from n xs) ≡ nat_eq (end_of t) u.start
 touches text n xs t u is lt more h =
-    touches_so text n xs t u is lt more ∙ and_then_true (this_kind Punct t) (bytes_eq text t.text.now) (nat_eq (end_of t) u.start) h
+    touches_so text n xs t u is lt more
+    ∙ and_then_true (this_kind Punct t) (bytes_eq text t.text.now) (nat_eq (end_of t) u.start) h
 
-pub touches_not : (text : List ℕ) (n : ℕ) (xs : List Token) (t u : Token) → t ≡ get_or xs 0 t → 1 < length xs → u ≡ get_or xs 1 u
+pub touches_not : (text : List ℕ) (n : ℕ) (xs : List Token) (t u : Token) → t ≡ get_or xs 0 t → 1 < length xs
+    → u ≡ get_or xs 1 u
     → this_token Punct text t ≡ false → sees_touching text (seen_from n xs) ≡ false
 touches_not text n xs t u is lt more h =
-    touches_so text n xs t u is lt more ∙ and_then_false (this_kind Punct t) (bytes_eq text t.text.now) (nat_eq (end_of t) u.start) h
+    touches_so text n xs t u is lt more
+    ∙ and_then_false (this_kind Punct t) (bytes_eq text t.text.now) (nat_eq (end_of t) u.start) h
 
-pub one_touches_not : (text : List ℕ) (n : ℕ) (xs : List Token) → length xs ≤ 1 → sees_touching text (seen_from n xs) ≡ false
+pub one_touches_not : (text : List ℕ) (n : ℕ) (xs : List Token) → length xs ≤ 1
+    → sees_touching text (seen_from n xs) ≡ false
 unfolding sees_touching
 one_touches_not text n [] h = refl
 one_touches_not text n (x ∷ []) h = no_touch (this_kind Punct x) (bytes_eq text x.text.now)
@@ -250,7 +265,8 @@ touching_taken text n (x ∷ y ∷ ys) h =
     touching_read n (x ∷ y ∷ ys) x y text refl (omega arith) refl (sym (same_kind Punct x.kind all.0))
     (sym ((bytes_eq-Decides text x.text.now).0 all.1)) ((Decides-eqb (end_of x) y.start).0 all.2)
 
-pub shift_seen : (n : ℕ) (xs : List Token) (u : Token) → sees_touching (codes ">") (seen_from n xs) ≡ true → 1 < length xs → u ≡ get_or xs 1 u
+pub shift_seen : (n : ℕ) (xs : List Token) (u : Token) → sees_touching (codes ">") (seen_from n xs) ≡ true
+    → 1 < length xs → u ≡ get_or xs 1 u
     → sees_shift (seen_from n xs) ≡ this_token Punct (codes ">") u
 unfolding sees
 shift_seen n [] u h lt is = absurd (omega arith)
@@ -272,7 +288,8 @@ pub open_at : (left room : ℕ) (inside : ℕ → Way) → suc left ≡ room →
 unfolding opened
 open_at left room inside e = ap (λ n. opened n inside) (sym e)
 
-pub ends_inside : (room : ℕ) (inside : ℕ → Way) (e : Stop) → ((left : ℕ) → suc left ≡ room → Ends (inside left) e) → Ends (opened room inside) e
+pub ends_inside : (room : ℕ) (inside : ℕ → Way) (e : Stop) → ((left : ℕ) → suc left ≡ room → Ends (inside left) e)
+    → Ends (opened room inside) e
 unfolding opened
 ends_inside zero inside e h = inr refl
 ends_inside (suc left) inside e h = h left refl
@@ -307,8 +324,10 @@ maybe_taken b taken old new (Some l) f same t way = seen (Some old) t way
 pub open_on : {left room : ℕ} {v : Way} (inside : ℕ → Way) → suc left ≡ room → inside left ≡ v → opened room inside ≡ v
 open_on {left = left} {room = room} inside e h = open_at left room inside e ∙ h
 
-pub ends_open : {left room : ℕ} {e : Stop} (inside : ℕ → Way) → suc left ≡ room → Ends (inside left) e → Ends (opened room inside) e
-ends_open {left = left} {room = room} {e = e} inside same h = ends_so (inside left) (opened room inside) e (open_at left room inside same) h
+pub ends_open : {left room : ℕ} {e : Stop} (inside : ℕ → Way) → suc left ≡ room → Ends (inside left) e
+    → Ends (opened room inside) e
+ends_open {left = left} {room = room} {e = e} inside same h =
+    ends_so (inside left) (opened room inside) e (open_at left room inside same) h
 
 -- a step inside a level that wasn't taken
 pub open_halts : {e : Stop} (room : ℕ) (o : Way) (more : ℕ → List Seen → Way) → Ends (opened room (λ left. o)) e
@@ -324,7 +343,8 @@ unfolding opened
 open_past {t = t} {e = e} zero o more same h = inr refl
 open_past {t = t} {e = e} (suc left) o more same h = ends_past o (more left) t e same h
 
-pub tail_open_past : {T : Type 0} (room : ℕ) (o : Way) (more : ℕ → List Seen → Way) (t : List Seen) (r : Result T Stop) → o ≡ Some t
+pub tail_open_past : {T : Type 0} (room : ℕ) (o : Way) (more : ℕ → List Seen → Way) (t : List Seen) (r : Result T Stop)
+    → o ≡ Some t
     → IfErr r (Ends (opened room (λ left. more left t))) → IfErr r (Ends (opened room (λ left. and_then o (more left))))
 tail_open_past room o more t (Ok x) same h = tt
 tail_open_past room o more t (Err s) same h = open_past room o more same h
@@ -345,7 +365,8 @@ pub full_stops : {T : Type 0} (way : Way) (r : Result T Stop) → IfErr r (λ s.
 full_stops way (Ok x) h = tt
 full_stops way (Err s) h = inl h
 
-pub ok_so : {T : Type 0} {o : Way} (p : Way) (u : List Seen) (r : Result T Stop) → p ≡ o → IfOk r (λ x. o ≡ Some u) → IfOk r (λ x. p ≡ Some u)
+pub ok_so : {T : Type 0} {o : Way} (p : Way) (u : List Seen) (r : Result T Stop) → p ≡ o → IfOk r (λ x. o ≡ Some u)
+    → IfOk r (λ x. p ≡ Some u)
 ok_so p u (Ok x) e h = e ∙ h
 ok_so p u (Err s) e h = tt
 
@@ -380,7 +401,8 @@ took b w u e h = sym (ap (λ c. only_if c w) e) ∙ h
 pub first_case : (b : Bool) (o : Operator) (other : Option Operator) → b ≡ true → Some o ≡ if_seen b o other
 first_case b o other e = sym (ap (λ c. if_seen c o other) e)
 
-pub other_case : (b : Bool) (o : Operator) (other found : Option Operator) → b ≡ false → found ≡ other → found ≡ if_seen b o other
+pub other_case : (b : Bool) (o : Operator) (other found : Option Operator) → b ≡ false → found ≡ other
+    → found ≡ if_seen b o other
 other_case b o other found e h = h ∙ sym (ap (λ c. if_seen c o other) e)
 
 pub or_at : (shifts : Bool) (t : List Seen) → operator_at shifts 0 t ≡ if_seen (operator_seen Or t) Or None
@@ -411,7 +433,8 @@ sum_at true t = refl
 sum_at false t = refl
 
 pub product_at : (shifts : Bool) (t : List Seen) → operator_at shifts 5 t
-    ≡ if_seen (operator_seen Multiply t) Multiply (if_seen (operator_seen Divide t) Divide (if_seen (operator_seen Remainder t) Remainder None))
+    ≡ if_seen (operator_seen Multiply t) Multiply
+    (if_seen (operator_seen Divide t) Divide (if_seen (operator_seen Remainder t) Remainder None))
 unfolding operator_at
 product_at true t = refl
 product_at false t = refl
@@ -426,22 +449,27 @@ and_off false b e = refl
 
 -- ---- the operator that is found is one of its level
 
-of_test : (b : Bool) (p o : Operator) (other : Option Operator) (P : Operator → Type 0) → (b ≡ true → P p) → (other ≡ Some o → P o)
+of_test : (b : Bool) (p o : Operator) (other : Option Operator) (P : Operator → Type 0) → (b ≡ true → P p)
+    → (other ≡ Some o → P o)
     → if_seen b p other ≡ Some o → P o
 of_test true p o other P f g h = let same : p ≡ o = cc in subst P same (f refl)
 of_test false p o other P f g h = g h
 
-found_among : (shifts : Bool) (level : ℕ) (os : List Operator) (t : List Seen) (o : Operator) → first_seen shifts level os t ≡ Some o
+found_among : (shifts : Bool) (level : ℕ) (os : List Operator) (t : List Seen) (o : Operator)
+    → first_seen shifts level os t ≡ Some o
     → is_operator_of shifts level o ≡ true
 found_among shifts level [] t o h = absurd cc
 found_among shifts level (p ∷ os) t o h =
-    of_test _ p o _ (λ x. is_operator_of shifts level x ≡ true) (λ e. (and_parts (is_operator_of shifts level p) (operator_seen p t) e).0)
+    of_test _ p o _ (λ x. is_operator_of shifts level x ≡ true)
+    (λ e. (and_parts (is_operator_of shifts level p) (operator_seen p t) e).0)
     (λ e. found_among shifts level os t o e) h
 
-pub operator_found : (shifts : Bool) (level : ℕ) (t : List Seen) (o : Operator) → Some o ≡ operator_at shifts level t → is_operator_of shifts level o ≡ true
+pub operator_found : (shifts : Bool) (level : ℕ) (t : List Seen) (o : Operator) → Some o ≡ operator_at shifts level t
+    → is_operator_of shifts level o ≡ true
 unfolding operator_at
 operator_found shifts level t o h =
-    found_among shifts level (Or ∷ Xor ∷ And ∷ ShiftLeft ∷ ShiftRight ∷ Add ∷ Subtract ∷ Multiply ∷ Divide ∷ Remainder ∷ []) t o (sym h)
+    found_among shifts level (Or ∷ Xor ∷ And ∷ ShiftLeft ∷ ShiftRight ∷ Add ∷ Subtract ∷ Multiply ∷ Divide ∷ Remainder
+    ∷ []) t o (sym h)
 
 pub operand_is : (tighter : List Seen → Way) (found : Option Operator) (o : Operator) (t : List Seen) → Some o ≡ found
     → operand_way tighter found t ≡ and_then (operator_way o t) (λ u. tighter u)
@@ -449,7 +477,8 @@ operand_is tighter found o t e = sym (ap (λ x. operand_way tighter x t) e)
 
 -- ---- expressions by their levels
 
-pub unary_level : (inner : List Seen → Way) (shifts : Bool) (level : ℕ) (t : List Seen) → 6 ≤ level → level_way inner shifts (6 - level) t ≡ unary_way inner t
+pub unary_level : (inner : List Seen → Way) (shifts : Bool) (level : ℕ) (t : List Seen) → 6 ≤ level
+    → level_way inner shifts (6 - level) t ≡ unary_way inner t
 unfolding level_way
 unary_level inner shifts level t h = let none : 6 - level ≡ 0 = omega arith in ap (λ n. level_way inner shifts n t) none
 
@@ -458,25 +487,30 @@ level_suc : (inner : List Seen → Way) (shifts : Bool) (n : ℕ) (t : List Seen
 unfolding level_way
 level_suc inner shifts n t = refl
 
-pub level_is : (inner : List Seen → Way) (shifts : Bool) (level : ℕ) (t : List Seen) → level < 6 → level_way inner shifts (6 - level) t
-    ≡ and_then (level_way inner shifts (5 - level) t) (λ u. operands_way (λ v. level_way inner shifts (5 - level) v) shifts level u)
+pub level_is : (inner : List Seen → Way) (shifts : Bool) (level : ℕ) (t : List Seen) → level < 6
+    → level_way inner shifts (6 - level) t
+    ≡ and_then (level_way inner shifts (5 - level) t)
+    (λ u. operands_way (λ v. level_way inner shifts (5 - level) v) shifts level u)
 level_is inner shifts level t h =
     let more : 6 - level ≡ suc (5 - level) = omega arith in
     let back : 5 - (5 - level) ≡ level = omega arith in
     ap (λ n. level_way inner shifts n t) more ∙ level_suc inner shifts (5 - level) t
-    ∙ ap (λ n. and_then (level_way inner shifts (5 - level) t) (λ u. operands_way (λ v. level_way inner shifts (5 - level) v) shifts n u)) back
+    ∙ ap (λ n. and_then (level_way inner shifts (5 - level) t)
+    (λ u. operands_way (λ v. level_way inner shifts (5 - level) v) shifts n u)) back
 
 pub inside_none : (room : ℕ) (t : List Seen) → room ≡ 0 → inside_way room t ≡ None
 unfolding inside_way
 inside_none room t e = ap (λ n. inside_way n t) e
 
-pub inside_at : (left room : ℕ) (t : List Seen) → suc left ≡ room → inside_way room t ≡ level_way (λ u. inside_way left u) true 6 t
+pub inside_at : (left room : ℕ) (t : List Seen) → suc left ≡ room
+    → inside_way room t ≡ level_way (λ u. inside_way left u) true 6 t
 unfolding inside_way
 inside_at left room t e = ap (λ n. inside_way n t) (sym e)
 
 -- ---- types by their levels
 
-pub simple_is : (room : ℕ) (t : List Seen) → simple_type_way room t ≡ where_seen (sees_word (codes "sequence") t) (sequence_way room t) (param_type_way room t)
+pub simple_is : (room : ℕ) (t : List Seen) → simple_type_way room t
+    ≡ where_seen (sees_word (codes "sequence") t) (sequence_way room t) (param_type_way room t)
 unfolding simple_type_way opened
 simple_is zero t = refl
 simple_is (suc left) t = refl
@@ -489,7 +523,8 @@ unfolding and_then
 two_on None step more t e h = absurd cc
 two_on (Some u) step more t e h = goes_past (step u) more t e ∙ h
 
-pub two_past : {e : Stop} (o : Way) (step more : List Seen → Way) (t : List Seen) → and_then o step ≡ Some t → Ends (more t) e
+pub two_past : {e : Stop} (o : Way) (step more : List Seen → Way) (t : List Seen) → and_then o step ≡ Some t
+    → Ends (more t) e
     → Ends (and_then o (λ u. and_then (step u) more)) e
 unfolding and_then
 two_past None step more t same h = absurd cc
@@ -503,13 +538,16 @@ two_halts e (Some u) step more h = ends_at (step u) more e h
 
 -- a level whose beginning isn't there, or that is one too many
 pub level_halts : {e : Stop} (room : ℕ) (o : Way) (step : List Seen → Way) (more : ℕ → List Seen → Way)
-    → Ends (and_then o (λ u. opened room (λ l. step u))) e → Ends (opened room (λ left. and_then o (λ u. and_then (step u) (more left)))) e
+    → Ends (and_then o (λ u. opened room (λ l. step u))) e
+    → Ends (opened room (λ left. and_then o (λ u. and_then (step u) (more left)))) e
 unfolding opened
 level_halts {e = e} zero o step more h = inr refl
 level_halts {e = e} (suc left) o step more h = two_halts e o step (more left) h
 
-pub inside_stops : {e : Stop} (left room : ℕ) (inside : ℕ → Way) → suc left ≡ room → Ends (opened room inside) e → Ends (inside left) e
-inside_stops {e = e} left room inside same h = ends_so (opened room inside) (inside left) e (sym (open_at left room inside same)) h
+pub inside_stops : {e : Stop} (left room : ℕ) (inside : ℕ → Way) → suc left ≡ room → Ends (opened room inside) e
+    → Ends (inside left) e
+inside_stops {e = e} left room inside same h =
+    ends_so (opened room inside) (inside left) e (sym (open_at left room inside same)) h
 
 pub open_all : {v : List Seen} (room : ℕ) (other inside : ℕ → Way) → opened room other ≡ Some v
     → ((left : ℕ) → suc left ≡ room → other left ≡ Some v → inside left ≡ Some v) → opened room inside ≡ Some v
@@ -524,7 +562,12 @@ pub part_braced : (part : List Seen → Way) (start now next : List Seen) → Br
 part_braced part start now next (inl same) is less =
     record { first = next; is = ap part (sym same) ∙ is; going = going_begins no_brace part next }
 part_braced part start now next (inr began) is less =
-    record { first = began.0.first; is = began.0.is; going = going_on no_brace part began.0.first now next began.0.going began.1 is less }
+    record {
+      first = began.0.first;
+      is = began.0.is;
+      going =
+          going_on no_brace part began.0.first now next began.0.going began.1 is less;
+    }
 
 not_brace : (b : Bool) → b ≡ false → not b ≡ true
 not_brace b e = ap not e
@@ -538,15 +581,18 @@ brace_off t e = not_brace (sees_mark (codes "}") t) e
 pub brace_on : (t : List Seen) → sees_mark (codes "}") t ≡ true → no_brace t ≡ false
 brace_on t e = is_brace (sees_mark (codes "}") t) e
 
-pub stays_braced : (part : List Seen → Way) (start now : List Seen) → Began part start now → sees_mark (codes "}") now ≡ false → Bracing part start now
+pub stays_braced : (part : List Seen → Way) (start now : List Seen) → Began part start now
+    → sees_mark (codes "}") now ≡ false → Bracing part start now
 stays_braced part start now began e = inr (began, brace_off now e)
 
-pub closes_braced : (part : List Seen → Way) (start now next : List Seen) → Began part start now → sees_mark (codes "}") now ≡ true
+pub closes_braced : (part : List Seen → Way) (start now next : List Seen) → Began part start now
+    → sees_mark (codes "}") now ≡ true
     → mark_taken (codes "}") now ≡ Some next → braced_way part start ≡ Some next
 closes_braced part start now next began e is =
     on _ began.is (on _ (going_ends no_brace part began.first now began.going (brace_on now e)) is)
 
-pub stops_braced : (part : List Seen → Way) (start now : List Seen) (e : Stop) → Bracing part start now → Ends (part now) e → Ends (braced_way part start) e
+pub stops_braced : (part : List Seen → Way) (start now : List Seen) (e : Stop) → Bracing part start now
+    → Ends (part now) e → Ends (braced_way part start) e
 stops_braced part start now e (inl same) h = halts _ (ends_so (part now) (part start) e (ap part (sym same)) h)
 stops_braced part start now e (inr began) h =
     past _ began.0.is (halts _ (going_stops no_brace part began.0.first now e began.0.going began.1 h))
@@ -560,7 +606,8 @@ and_none (Some u) = refl
 
 no_enum : (t : List Seen) → enum_way 0 t ≡ None
 unfolding opened and_then
-no_enum t = ap (λ w. and_then w (λ u. and_then (listed_way (λ v. identifier_way v) u) (λ v. mark_taken (codes "}") v))) (and_none (named_way (codes "enum") t))
+no_enum t = ap (λ w. and_then w (λ u. and_then (listed_way (λ v. identifier_way v) u) (λ v. mark_taken (codes "}") v)))
+    (and_none (named_way (codes "enum") t))
 
 pub type_is : (room : ℕ) (t : List Seen) → type_way room t
     ≡ where_seen (sees_word (codes "struct") t) (opened room (λ left. struct_way (λ u. type_way left u) left t))
@@ -573,7 +620,8 @@ type_is zero t =
 type_is (suc left) t = refl
 
 pub attributes_are : (b : Bool) (t : List Seen) → attributes_way b t
-    ≡ and_then (identifier_way t) (λ u. where_seen (sees_mark (codes ",") u) (rest_way (λ v. identifier_way v) u) (raising_way b u))
+    ≡ and_then (identifier_way t)
+    (λ u. where_seen (sees_mark (codes ",") u) (rest_way (λ v. identifier_way v) u) (raising_way b u))
 unfolding attributes_way
 attributes_are true t = refl
 attributes_are false t = refl
@@ -612,22 +660,29 @@ none_of false h = refl
 pub over_is : (n : ℕ) (xs : List Token) → is_over (seen_from n xs) ≡ (length xs == 0)
 over_is n [] = refl
 over_is n (x ∷ xs) =
-    none_of (length (x ∷ xs) == 0) (λ h. let none : length (x ∷ xs) ≡ 0 = (Decides-eqb (length (x ∷ xs)) 0).0 h in absurd (omega (arith, none)))
+    none_of (length (x ∷ xs) == 0) (λ h. let none : length (x ∷ xs) ≡ 0 = (Decides-eqb (length (x ∷ xs)) 0).0 h in
+    absurd (omega (arith, none)))
 
 -- ---- what an attribute raises behind its identifier
 
-tail_raises : (b value : Bool) (t mid : List Seen) → b ≡ value → identifier_way t ≡ Some mid → sees_mark (codes ",") mid ≡ false
+tail_raises : (b value : Bool) (t mid : List Seen) → b ≡ value → identifier_way t ≡ Some mid
+    → sees_mark (codes ",") mid ≡ false
     → attributes_way b t ≡ raising_way value mid
 tail_raises b value t mid e way other =
     attributes_are b t
-    ∙ goes_past (identifier_way t) (λ u. where_seen (sees_mark (codes ",") u) (rest_way (λ v. identifier_way v) u) (raising_way b u)) mid way
+    ∙ goes_past (identifier_way t)
+    (λ u. where_seen (sees_mark (codes ",") u) (rest_way (λ v. identifier_way v) u) (raising_way b u)) mid way
     ∙ where_is_not (sees_mark (codes ",") mid) (rest_way (λ v. identifier_way v) mid) (raising_way b mid) other
     ∙ ap (λ x. raising_way x mid) e
 
-pub tail_raising : {T : Type 0} (b value : Bool) (t mid u : List Seen) (r : Result T Stop) → b ≡ value → identifier_way t ≡ Some mid
-    → sees_mark (codes ",") mid ≡ false → IfOk r (λ x. raising_way value mid ≡ Some u) → IfOk r (λ x. attributes_way b t ≡ Some u)
+pub tail_raising : {T : Type 0} (b value : Bool) (t mid u : List Seen) (r : Result T Stop) → b ≡ value
+    → identifier_way t ≡ Some mid
+    → sees_mark (codes ",") mid ≡ false → IfOk r (λ x. raising_way value mid ≡ Some u)
+    → IfOk r (λ x. attributes_way b t ≡ Some u)
 tail_raising b value t mid u r e way other h = ok_so (attributes_way b t) u r (tail_raises b value t mid e way other) h
 
-pub tail_raising_stops : {T : Type 0} (b value : Bool) (t mid : List Seen) (r : Result T Stop) → b ≡ value → identifier_way t ≡ Some mid
+pub tail_raising_stops : {T : Type 0} (b value : Bool) (t mid : List Seen) (r : Result T Stop) → b ≡ value
+    → identifier_way t ≡ Some mid
     → sees_mark (codes ",") mid ≡ false → IfErr r (Ends (raising_way value mid)) → IfErr r (Ends (attributes_way b t))
-tail_raising_stops b value t mid r e way other h = err_so (attributes_way b t) r (tail_raises b value t mid e way other) h
+tail_raising_stops b value t mid r e way other h =
+    err_so (attributes_way b t) r (tail_raises b value t mid e way other) h

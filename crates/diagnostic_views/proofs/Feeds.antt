@@ -18,13 +18,16 @@ fed c is = grind (arith, nat_tests)
 
 -- a run without one
 run : (source : List ℕ) (start n : ℕ) → start + n ≤ length source
-    → ((k : ℕ) → k < n → is_feed (slice_index source (start + k)) ≡ false) → feeds_before (start + n) source ≡ feeds_before start source
+    → ((k : ℕ) → k < n → is_feed (slice_index source (start + k)) ≡ false)
+    → feeds_before (start + n) source ≡ feeds_before start source
 run source start zero within plain =
     let same : start + 0 ≡ start = omega arith in
     ap (λ m. feeds_before m source) same
 run source start (suc n) within plain =
     let same : start + suc n ≡ start + n + 1 = omega arith in
-    ap (λ m. feeds_before m source) same ∙ count_by_more_no is_feed source (start + n) 0 (omega arith) (plain n (omega arith)) ∙ run source start n (omega arith) (λ k less. plain k (omega arith))
+    ap (λ m. feeds_before m source) same
+    ∙ count_by_more_no is_feed source (start + n) 0 (omega arith) (plain n (omega arith))
+    ∙ run source start n (omega arith) (λ k less. plain k (omega arith))
 
 -- the run before the first one behind a place
 before_first_feed : (source : List ℕ) (start : ℕ) → start ≤ length source
@@ -65,6 +68,7 @@ no_line source number start begun ends =
     let short = length-drop start source in
     let within = begun.within in
     let so_far = before_first_feed source start within in
-    let whole = ap (count_by is_feed) (take_all (start + position_or_len is_feed (drop start source)) source (omega arith)) in
+    let whole = ap (count_by is_feed)
+    (take_all (start + position_or_len is_feed (drop start source)) source (omega arith)) in
     let counts = begun.counts in
     omega arith

@@ -1,4 +1,3 @@
-
 pub mod Under
 pub mod Feeds
 pub mod Firsts

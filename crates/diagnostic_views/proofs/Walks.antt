@@ -16,10 +16,13 @@ some octets none = let counted = length-slice_split (λ (c : ℕ). c == 10) octe
 
 -- one line further
 pub further : (place : PlaceParts) (octets line rest : List ℕ) → IsCut octets line rest
-    → behind_all place (slice_split (λ c. c == 10) octets) ≡ behind_all (following place (marker_of line)) (slice_split (λ c. c == 10) rest)
+    → behind_all place (slice_split (λ c. c == 10) octets)
+    ≡ behind_all (following place (marker_of line)) (slice_split (λ c. c == 10) rest)
 further place octets line rest cut =
     let parts = slice_split_first (λ c. c == 10) octets 0 cut.within in
-    rw (cut.line_is, cut.rest_is, parts) (more place (before_first (λ c. c == 10) octets) (slice_split (λ c. c == 10) (after_first (λ c. c == 10) octets))
+    rw (cut.line_is, cut.rest_is, parts)
+    (more place (before_first (λ c. c == 10) octets)
+    (slice_split (λ c. c == 10) (after_first (λ c. c == 10) octets))
     (some (after_first (λ c. c == 10) octets)))
 
 pub shorter : (octets line rest : List ℕ) → IsCut octets line rest → length rest < length octets
@@ -34,9 +37,11 @@ step true c n rest parts is then = absurd (omega arith)
 step false c n rest parts is then = rw (then (omega arith)) refl
 
 -- without a line feed there is one part
-ended : (octets : List ℕ) → position_or_len (λ c. c == 10) octets ≡ length octets → slice_split (λ c. c == 10) octets ≡ octets ∷ []
+ended : (octets : List ℕ) → position_or_len (λ c. c == 10) octets ≡ length octets
+    → slice_split (λ c. c == 10) octets ≡ octets ∷ []
 ended [] is = refl
-ended (c ∷ rest) is = step (c == 10) c (position_or_len (λ c. c == 10) rest) rest (slice_split (λ c. c == 10) rest) is (ended rest)
+ended (c ∷ rest) is = step (c == 10) c (position_or_len (λ c. c == 10) rest) rest (slice_split (λ c. c == 10) rest) is
+    (ended rest)
 
 -- no line is whole any more
 pub last : (place : PlaceParts) (octets : List ℕ) → position_or_len (λ c. c == 10) octets ≡ length octets

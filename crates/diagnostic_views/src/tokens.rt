@@ -2,8 +2,8 @@
 //! fronts of the line into tokens.
 
 use crate::facts::{Known, Spot};
-use idl_lexer::{LexFault, lex};
 use crate::source_places::line_start;
+use idl_lexer::{LexFault, lex};
 use std::alloc::{AllocError, Global};
 use std::str;
 

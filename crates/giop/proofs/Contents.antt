@@ -51,7 +51,8 @@ no_locate octets head is none sought s =
 pub request_said : (octets : List ℕ) (head : Head) (tape : List ℕ) (stop : ℕ) (header : RequestHeader) (asked : Asked)
     → IsWhole kinds.Request octets head → IsTapeAt octets head.order 17 tape stop
     → ((value : Tree) (rest : List ℕ) → Begins 17 value tape rest → IsRequestHeader value header)
-    → asked.id ≡ header.id → asked.flags ≡ header.flags → asked.operation ≡ header.operation.now → asked.order ≡ head.order
+    → asked.id ≡ header.id → asked.flags ≡ header.flags → asked.operation ≡ header.operation.now
+    → asked.order ≡ head.order
     → ((target : Tree) → TellsTarget target header.target → IsKeyOf target asked.key)
     → HasBody octets stop asked.body_at asked.body → IsRequest octets asked
 request_said octets head tape stop header asked is at told id flags operation order key body =

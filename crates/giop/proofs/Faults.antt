@@ -23,7 +23,8 @@ tape_read octets order node place tape taken m = record {
 }
 
 pub none_read : (octets : List ℕ) (order : Order) (node place : ℕ)
-    → ((tape front rest : List ℕ) → octets ≡ front ++ rest → Means giop_nodes (reading order) 64 node place tape front → ⊥)
+    → ((tape front rest : List ℕ) → octets ≡ front ++ rest → Means giop_nodes (reading order) 64 node place tape front
+    → ⊥)
     → (value : Tree) → BeginsWith order node place value octets → ⊥
 none_read octets order node place none value b =
     none (tape_of giop_nodes (node_at giop_nodes node) value) b.front b.rest b.octets_are

@@ -36,7 +36,8 @@ reference_value value f =
       is = is;
       fits = record { type_id = text_counted t.text t.fits; profiles = l.are };
       tape = ap (tape_of giop_nodes (node_at giop_nodes 13)) is
-          ∙ ap (λ k. counted t.text ++ k) (append-nil (tape_of giop_nodes (node_at giop_nodes 12) (tagged_list_tree l.all)) ∙ profiles);
+          ∙ ap (λ k. counted t.text ++ k)
+          (append-nil (tape_of giop_nodes (node_at giop_nodes 12) (tagged_list_tree l.all)) ∙ profiles);
     }
 
 -- one reference stands at the front of a tape
@@ -59,7 +60,8 @@ reference_found order place octets tape lent rest reference e h front =
     subst (λ (value : Tree). BeginsWith order 13 place value octets) (v.is ∙ ap reference_tree same) h.begins
 
 -- the tape begins with a reference
-pub reference_there : (order : Order) (place : ℕ) (octets tape lent : List ℕ) → lent ≡ tape → HasTape order 13 place octets tape
+pub reference_there : (order : Order) (place : ℕ) (octets tape lent : List ℕ) → lent ≡ tape
+    → HasTape order 13 place octets tape
     → ((reference : Reference) (rest : List ℕ) → IsFront lent reference rest → ⊥) → ⊥
 reference_there order place octets tape lent e h none =
     let v = reference_value h.value h.begins.holds.fits in

@@ -63,7 +63,8 @@ pub record RequestParts (value : Tree) (tape rest : List ℕ) : Type 0 where
   pub target_begins : Begins 16 target address (counted text ++ behind)
   pub text_short : IsCounted text
 
-pub six : (a b c t k x rest : List ℕ) → (a ++ (b ++ (c ++ (t ++ (k ++ x))))) ++ rest ≡ a ++ (b ++ (c ++ (t ++ (k ++ (x ++ rest)))))
+pub six : (a b c t k x rest : List ℕ) → (a ++ (b ++ (c ++ (t ++ (k ++ x))))) ++ rest
+    ≡ a ++ (b ++ (c ++ (t ++ (k ++ (x ++ rest)))))
 six a b c t k x rest = simp append_assoc
 
 pub request_parts : (value : Tree) (tape rest : List ℕ) → Begins 17 value tape rest → RequestParts value tape rest
@@ -81,7 +82,8 @@ request_parts value tape rest begins =
     let t = text_shape e.value 64 e.fits in
     let s = sequence 11 f.value 64 f.fits in
     let is : value ≡ request_tree i.n o.n r.values d.value t.text s.values =
-    m.is ∙ ap Items (a.is ∙ ap₂ AndTree i.is (b.is ∙ ap₂ AndTree o.is (c.is ∙ ap₂ AndTree r.is (d.is ∙ ap (AndTree d.value)
+    m.is ∙ ap Items (a.is ∙ ap₂ AndTree i.is
+    (b.is ∙ ap₂ AndTree o.is (c.is ∙ ap₂ AndTree r.is (d.is ∙ ap (AndTree d.value)
     (e.is ∙ ap₂ AndTree t.is (f.is ∙ ap₂ AndTree s.is (none_left f.more 64 f.rest))))))) in
     let z = tape_of giop_nodes (nodes.Array 0 3) (Items r.values) in
     let y = tape_of giop_nodes (node_at giop_nodes 16) d.value in
@@ -134,9 +136,11 @@ reply_parts value tape rest begins =
     let n = enumerator 6 b.value 64 b.fits in
     let s = sequence 11 c.value 64 c.fits in
     let is : value ≡ reply_tree i.n n.n s.values =
-    m.is ∙ ap Items (a.is ∙ ap₂ AndTree i.is (b.is ∙ ap₂ AndTree n.is (c.is ∙ ap₂ AndTree s.is (none_left c.more 64 c.rest)))) in
+    m.is ∙ ap Items (a.is ∙ ap₂ AndTree i.is
+    (b.is ∙ ap₂ AndTree n.is (c.is ∙ ap₂ AndTree s.is (none_left c.more 64 c.rest)))) in
     let x = tape_of giop_nodes (nodes.Seq 11 0) (Items s.values) ++ [] in
-    let spelled : tape_of giop_nodes (node_at giop_nodes 19) value ≡ word Big Four (pos i.n) ++ (word Big Four (pos n.n) ++ x) =
+    let spelled : tape_of giop_nodes (node_at giop_nodes 19) value
+    ≡ word Big Four (pos i.n) ++ (word Big Four (pos n.n) ++ x) =
     ap (tape_of giop_nodes (node_at giop_nodes 19)) is in
     record {
       id = i.n;

@@ -17,7 +17,8 @@ use Rattle.giop.specs.inner.Tapes.{Begins}
 use Rattle.giop.specs.inner.Targets.{TellsTarget, IsRequestHeader, IsReplyHeader, IsLocateHeader}
 use Rattle.giop.proofs.HeaderParts.{RequestParts, request_parts, reply_parts, cancel_parts, locate_parts}
 
-pub octet_front : (m n : ℕ) (r s : List ℕ) → m < 2 ^ 8 → n < 2 ^ 8 → word Big One (pos m) ++ r ≡ word Big One (pos n) ++ s
+pub octet_front : (m n : ℕ) (r s : List ℕ) → m < 2 ^ 8 → n < 2 ^ 8
+    → word Big One (pos m) ++ r ≡ word Big One (pos n) ++ s
     → (m ≡ n) × (r ≡ s)
 octet_front m n r s hm hn e =
     let cut = cut_same (word Big One (pos m)) (word Big One (pos n)) r s refl e in
@@ -27,7 +28,8 @@ octet_front m n r s hm hn e =
 
 -- a tape that a reader of targets was given tells this
 abbrev pub Split : Target → List ℕ → List ℕ → Type 0
-Split target tape behind = (tree : Tree) (rest : List ℕ) → Begins 16 tree tape rest → TellsTarget tree target × (rest ≡ behind)
+Split target tape behind = (tree : Tree) (rest : List ℕ) → Begins 16 tree tape rest
+    → TellsTarget tree target × (rest ≡ behind)
 
 -- what of it stands behind the number, behind the flags, behind the reserved octets
 pub record AtFlags (value : Tree) (id : ℕ) (tape rest : List ℕ) : Type 0 where
@@ -51,7 +53,8 @@ pub record AtReserved (value : Tree) (id flags : ℕ) (tape rest : List ℕ) : T
   pub flags_is : parts.flags ≡ flags
   pub tape_is : tape ≡ parts.three ++ parts.address
 
-pub at_reserved : (value : Tree) (id : ℕ) (tape rest : List ℕ) (flags : ℕ) (behind : List ℕ) → AtFlags value id tape rest
+pub at_reserved : (value : Tree) (id : ℕ) (tape rest : List ℕ) (flags : ℕ) (behind : List ℕ)
+    → AtFlags value id tape rest
     → flags < 2 ^ 8 → tape ≡ word Big One (pos flags) ++ behind → AtReserved value id flags behind rest
 at_reserved value id tape rest flags behind a small e =
     let p = a.parts in
@@ -150,7 +153,8 @@ at_status : (value : Tree) (tape rest : List ℕ) (id : ℕ) (behind : List ℕ)
     → tape ≡ word Big Four (pos id) ++ behind → AtStatus value id behind
 at_status value tape rest id behind begins small e =
     let p = reply_parts value tape rest begins in
-    let same = word_front p.id id (word Big Four (pos p.status) ++ p.behind) behind p.id_small small (sym p.tape_is ∙ e) in
+    let same = word_front p.id id (word Big Four (pos p.status) ++ p.behind) behind p.id_small small (sym p.tape_is ∙ e)
+    in
     record {
       status = p.status;
       contexts = p.contexts;
@@ -165,7 +169,8 @@ status_same : (value : Tree) (id : ℕ) (tape : List ℕ) (a : AtStatus value id
 status_same value id tape a n more small e =
     (word_front a.status n a.behind more (omega (arith, a.small)) small (sym a.tape_is ∙ e)).0
 
-pub reply_found : (value : Tree) (tape rest : List ℕ) (id : ℕ) (r1 : List ℕ) (n : ℕ) (r2 : List ℕ) (status : ReplyStatus)
+pub reply_found : (value : Tree) (tape rest : List ℕ) (id : ℕ) (r1 : List ℕ) (n : ℕ) (r2 : List ℕ)
+    (status : ReplyStatus)
     → Begins 19 value tape rest → id < 2 ^ 32 → tape ≡ word Big Four (pos id) ++ r1 → n < 2 ^ 32
     → r1 ≡ word Big Four (pos n) ++ r2 → number_of status ≡ n
     → IsReplyHeader value (record { id = id; status = status })

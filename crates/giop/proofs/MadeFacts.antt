@@ -29,7 +29,8 @@ meant_holds order node value tape header fits e m =
     (sym e ∙ m.tape_is) in
     record {
       fits = fits;
-      encodes = subst (λ (v : Tree). Encodes (writing order) giop_nodes (node_at giop_nodes node) v 12 header) (sym same) m.encodes;
+      encodes = subst (λ (v : Tree). Encodes (writing order) giop_nodes (node_at giop_nodes node) v 12 header)
+          (sym same) m.encodes;
     }
 
 held_means : (order : Order) (node : ℕ) (value : Tree) (tape header : List ℕ) → IsTapeOf node value tape
@@ -65,7 +66,12 @@ not_made faults.TooLong order kind node value tape body fits e n =
 not_made faults.BadHead order kind node value tape body fits e n =
     λ header h. n header (held_means order node value tape header e h)
 not_made faults.BadBody order kind node value tape body fits e n =
-    record { header = n.header; header_is = meant_holds order node value tape n.header fits e n.header_is; none = n.none }
+    record {
+      header = n.header;
+      header_is = meant_holds order node value tape n.header fits e n.header_is;
+      none =
+          n.none;
+    }
 not_made faults.NotGiop order kind node value tape body fits e n = absurd n
 not_made faults.Version order kind node value tape body fits e n = absurd n
 not_made faults.BadFragment order kind node value tape body fits e n = absurd n

@@ -9,7 +9,8 @@ use Rattle.giop_types.specs.GiopNodes.{giop_nodes}
 use Rattle.giop_messages.specs.Messages.{HasHeader}
 use Rattle.giop.specs.inner.Tapes.{IsTapeAt}
 
-pub tape_found : (octets behind : List ℕ) (order : Order) (node : ℕ) (tape : List ℕ) (taken : ℕ) → behind ≡ drop 12 octets
+pub tape_found : (octets behind : List ℕ) (order : Order) (node : ℕ) (tape : List ℕ) (taken : ℕ)
+    → behind ≡ drop 12 octets
     → Means giop_nodes (reading order) 64 node 12 tape (take taken behind) → taken ≤ length behind
     → IsTapeAt octets order node tape (12 + taken)
 tape_found octets behind order node tape taken e m within = record {
@@ -21,7 +22,11 @@ tape_found octets behind order node tape taken e m within = record {
     holds = record { fits = m.fits; encodes = m.encodes };
     stops = ap (λ n. 12 + n) (sym (length-take-le taken behind within));
   };
-  begins = record { fits = m.fits; tape_is = m.tape_is ∙ sym (append-nil (tape_of giop_nodes (node_at giop_nodes node) m.value)) };
+  begins = record {
+    fits = m.fits;
+    tape_is = m.tape_is
+        ∙ sym (append-nil (tape_of giop_nodes (node_at giop_nodes node) m.value));
+  };
 }
 
 pub no_tape : (octets behind : List ℕ) (order : Order) (node : ℕ) → behind ≡ drop 12 octets

@@ -33,7 +33,8 @@ same_tree : (body : Body) (minor : ℕ) → body_tree (bare body minor) minor �
 same_tree body zero = refl
 same_tree body (suc n) = refl
 
-pub no_key : (profile : ℕ × List ℕ) → ((iiop : Iiop) → IsIiop profile iiop → ⊥) → (key : List ℕ) → HasKey profile key → ⊥
+pub no_key : (profile : ℕ × List ℕ) → ((iiop : Iiop) → IsIiop profile iiop → ⊥) → (key : List ℕ) → HasKey profile key
+    → ⊥
 no_key profile none key h =
     let e = h.encapsulated in
     let minor = h.body.minor in
@@ -43,5 +44,6 @@ no_key profile none key h =
       bare = λ is. ap (λ n. kept n h.body.components) is;
       front = e.body;
       octets_are = e.octets_are;
-      holds = subst (λ (tree : Tree). Holds (reading e.order) (body_node minor) 1 tree e.body) (sym (same_tree h.body minor)) e.holds;
+      holds = subst (λ (tree : Tree). Holds (reading e.order) (body_node minor) 1 tree e.body)
+          (sym (same_tree h.body minor)) e.holds;
     })

@@ -10,7 +10,8 @@ use Rattle.giop_messages.specs.Written.{Given, IsBody, head_octets}
 use Rattle.giop.specs.Made.{IsHeader, IsLong, IsNotMade}
 use Rattle.giop.proofs.MadeFacts.{length_made}
 
-pub memory_or : (wanted fault : GiopFault) (P Q : Type 0) → (P → Q) → IsMemoryOr wanted fault P → IsMemoryOr wanted fault Q
+pub memory_or : (wanted fault : GiopFault) (P Q : Type 0) → (P → Q) → IsMemoryOr wanted fault P
+    → IsMemoryOr wanted fault Q
 memory_or wanted faults.NoMemory P Q f h = tt
 memory_or wanted faults.NotGiop P Q f h = (h.0, f h.1)
 memory_or wanted faults.Version P Q f h = (h.0, f h.1)
@@ -24,7 +25,8 @@ pub without_body : (fault : GiopFault) (order : Order) (kind node : ℕ) (tape :
     → IsMemoryOr faults.BadBody fault ((behind : List ℕ) → IsBody order body (12 + length header) behind → ⊥)
     → IsNotMade fault order kind node tape body
 without_body faults.NoMemory order kind node tape body header is h = tt
-without_body faults.BadBody order kind node tape body header is h = record { header = header; header_is = is; none = h.1 }
+without_body faults.BadBody order kind node tape body header is h =
+    record { header = header; header_is = is; none = h.1 }
 without_body faults.BadHead order kind node tape body header is h = absurd (cc (h.0))
 without_body faults.NotGiop order kind node tape body header is h = absurd (cc (h.0))
 without_body faults.Version order kind node tape body header is h = absurd (cc (h.0))

@@ -99,7 +99,8 @@ none_read : (order : Order) (kind size : ℕ) (octets header behind : List ℕ)
     → octets ≡ head_octets order kind size ++ (header ++ behind) → behind ≡ []
     → drop (body_after (12 + length header)) octets ≡ []
 none_read order kind size octets header behind e none =
-    let long : length octets ≡ 12 + length (header ++ behind) = length_made order kind size octets (header ++ behind) e in
+    let long : length octets ≡ 12 + length (header ++ behind) =
+    length_made order kind size octets (header ++ behind) e in
     drop_all (body_after (12 + length header)) octets
     (omega (arith, long, length-append header behind, ap length none))
 
@@ -108,7 +109,8 @@ tape_read : (order : Order) (kind size : ℕ) (given : Given) (tape octets heade
     → given.tape ≡ tape
     → HoldsTape order given tape (body_after (12 + length header)) (drop (body_after (12 + length header)) octets)
 tape_read order kind size given [] octets header behind e is t =
-    none_read order kind size octets header behind e (nothing_behind order (Some given) (12 + length header) behind is t)
+    none_read order kind size octets header behind e
+    (nothing_behind order (Some given) (12 + length header) behind is t)
 tape_read order kind size given (octet ∷ more) octets header behind e is t =
     let gap = replicate (pad (12 + length header) 8) 0 in
     let front = head_octets order kind size ++ (header ++ gap) in
@@ -126,7 +128,8 @@ tape_read order kind size given (octet ∷ more) octets header behind e is t =
     ) in
     let there : drop (body_after (12 + length header)) octets ≡ is.body =
     ap₂ (λ (n : ℕ) (l : List ℕ). drop n l) (sym long) cut ∙ drop-append_seam front is.body in
-    let M : List ℕ → List ℕ → Type 0 = Means given.graph (reading order) 64 given.node (body_after (12 + length header)) in
+    let M : List ℕ → List ℕ → Type 0 =
+    Means given.graph (reading order) 64 given.node (body_after (12 + length header)) in
     subst₂ M t (sym there)
     (written_is_read given.graph order 64 given.node (body_after (12 + length header)) given.tape is.body is.is)
 
@@ -153,11 +156,13 @@ stops_written order kind node value body octets w e =
 
 pub request_said : (order : Order) (id flags : ℕ) (key operation : List ℕ) (body : Option Given) (octets : List ℕ)
     → length octets ≤ 12 + max_size
-    → IsWritten order 0 17 (request_tree id flags (octet_trees (0 ∷ 0 ∷ 0 ∷ [])) (key_target key) operation NoTree) body octets
+    → IsWritten order 0 17 (request_tree id flags (octet_trees (0 ∷ 0 ∷ 0 ∷ [])) (key_target key) operation NoTree) body
+    octets
     → SaysRequest order id flags key operation body octets
 request_said order id flags key operation body octets small w =
     let size = length w.header + length w.behind in
-    let long = whole_written order 0 17 (request_tree id flags (octet_trees (0 ∷ 0 ∷ 0 ∷ [])) (key_target key) operation NoTree) body octets w in
+    let long = whole_written order 0 17
+    (request_tree id flags (octet_trees (0 ∷ 0 ∷ 0 ∷ [])) (key_target key) operation NoTree) body octets w in
     let stop = 12 + length w.header in
     let head : head_in octets ≡ Ok (head_of_written order kinds.Request size) =
     ap head_in w.octets_are ∙ (head_read order size (w.header ++ w.behind) (omega (arith, small, long))).0 in
@@ -179,7 +184,8 @@ request_said order id flags key operation body octets small w =
         target = key_target key;
         contexts = NoTree;
         stop = stop;
-        header = header_read order 0 size 17 (request_tree id flags (octet_trees (0 ∷ 0 ∷ 0 ∷ [])) (key_target key) operation NoTree)
+        header = header_read order 0 size 17
+            (request_tree id flags (octet_trees (0 ∷ 0 ∷ 0 ∷ [])) (key_target key) operation NoTree)
             octets w.header w.behind w.octets_are w.header_is;
         key_is = ByKey refl;
         body = record { place = refl; body_is = refl };
@@ -190,7 +196,8 @@ request_said order id flags key operation body octets small w =
       operation_is = refl;
       order_is = refl;
       body_is = body_read order 0 size body octets w.header w.behind w.octets_are w.body_is;
-      stops = stops_written order 0 17 (request_tree id flags (octet_trees (0 ∷ 0 ∷ 0 ∷ [])) (key_target key) operation NoTree) body octets w;
+      stops = stops_written order 0 17
+          (request_tree id flags (octet_trees (0 ∷ 0 ∷ 0 ∷ [])) (key_target key) operation NoTree) body octets w;
     }
 
 pub reply_said : (order : Order) (id : ℕ) (status : ReplyStatus) (body : Option Given) (octets : List ℕ)
@@ -217,7 +224,8 @@ reply_said order id status body octets small w =
         order_is = refl;
         contexts = NoTree;
         stop = stop;
-        header = header_read order 1 size 19 (reply_tree id (number_of status) NoTree) octets w.header w.behind w.octets_are w.header_is;
+        header = header_read order 1 size 19 (reply_tree id (number_of status) NoTree) octets w.header w.behind
+            w.octets_are w.header_is;
         body = record { place = refl; body_is = refl };
       };
       id_is = refl;

@@ -73,7 +73,8 @@ placed : (target : Tree) (tape rest : List ℕ) (n : ℕ) (behind : List ℕ) �
     → tape ≡ word Big Four (pos n) ++ behind → Placed target n behind rest
 placed target tape rest n behind b small e =
     let p = part target tape rest b in
-    let same = word_front p.selected n (counted p.type_id ++ (tagged_list p.profiles ++ rest)) behind p.front.small small
+    let same = word_front p.selected n (counted p.type_id ++ (tagged_list p.profiles ++ rest)) behind p.front.small
+    small
     (sym p.front.front ∙ e) in
     record {
       type_id = p.type_id;
@@ -130,7 +131,8 @@ none_there target tape rest b none =
     let l = has_label tape (record { value = target; rest = rest; begins = b }) in
     none l.n l.rest l.front
 
-pub labelled_found : {X : Type 0} (Q : X → Tree → List ℕ → Type 0) (n : ℕ) (tape behind : List ℕ) (r : Result X TapeFault)
+pub labelled_found : {X : Type 0} (Q : X → Tree → List ℕ → Type 0) (n : ℕ) (tape behind : List ℕ)
+    (r : Result X TapeFault)
     → tape ≡ word Big Two (pos n) ++ behind
     → IfOk r (λ x. (target : Tree) (rest : List ℕ) → BeginsBehind n target behind rest → Q x target rest)
     → IfOk r (λ x. (target : Tree) (rest : List ℕ) → Begins 16 target tape rest → Q x target rest)
@@ -157,7 +159,8 @@ pub pair_there : (all lent : List Tagged) (n : ℕ) (one : Tagged) → lent ≡ 
     → one ≡ get_or lent n one → PairPlace all n (Some (pair_of one))
 pair_there all lent n one e within is =
     slice_get-map pair_of all n
-    ∙ ap (option_map pair_of) (ap (λ (l : List Tagged). slice_get l n) (sym e) ∙ slice_get_read lent (length lent) n one refl within is)
+    ∙ ap (option_map pair_of) (ap (λ (l : List Tagged). slice_get l n) (sym e)
+    ∙ slice_get_read lent (length lent) n one refl within is)
 
 pub pair_past : (all lent : List Tagged) (n : ℕ) → lent ≡ all → length lent ≤ n → PairPlace all n None
 pair_past all lent n e past =

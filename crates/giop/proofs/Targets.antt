@@ -213,7 +213,8 @@ not_true true h = absurd (h refl)
 not_true false h = refl
 
 -- a label that is none of those of the arms
-skipped : (a label : ℤ) (arm : ℕ) (more rest : List ℕ) → (label ≡ a → ⊥) → (if int_eq a label then arm ∷ more else rest) ≡ rest
+skipped : (a label : ℤ) (arm : ℕ) (more rest : List ℕ) → (label ≡ a → ⊥)
+    → (if int_eq a label then arm ∷ more else rest) ≡ rest
 skipped a label arm more rest ne =
     let unlike = not_true (int_eq a label) (λ e. ne (sym ((Decides-int_eq a label).0 e))) in
     ap (λ (b : Bool). if b then arm ∷ more else rest) unlike

@@ -10,8 +10,8 @@ ghost use Rattle.reference_texts.specs.Texts.{IsTextOf, Spells};
 ghost use Rattle.giop_types.specs.GiopModel.{giop_table};
 
 use giop_types::GiopTypes;
-use reference_texts::{Ior, ReferenceFault};
 use position_checker::Accepted;
+use reference_texts::{Ior, ReferenceFault};
 use std::alloc::{AllocError, Global};
 use std::marker::Model;
 

@@ -26,7 +26,8 @@ length-remove_entry : {X : Type 0} (test : ℕ → Bool) (es : List (ℕ × X)) 
 length-remove_entry test [] v there = absurd cc
 length-remove_entry test (e ∷ es) v there = hit test (test e.0) e es v (length-remove_entry test es v) there
 
-pub length-without : (id : ℕ) (runs : Runs) (run : Open) → run_of id runs ≡ Some run → length (without id runs) + 1 ≡ length runs
+pub length-without : (id : ℕ) (runs : Runs) (run : Open) → run_of id runs ≡ Some run
+    → length (without id runs) + 1 ≡ length runs
 length-without id runs run there = length-remove_entry (is_at (nat_cmp id)) runs run there
 
 room_is : (len : ℕ) (runs : Runs) → has_room len runs ≡ true → (length runs < 64) × (held runs + len ≤ 4194304)
@@ -37,7 +38,8 @@ room_is len runs room = grind (arith, nat_tests)
 pub held-without : (id : ℕ) (runs : Runs) (run : Open) → run_of id runs ≡ Some run
     → held (without id runs) + length run.octets ≡ held runs
 held-without id runs run there =
-    subst (λ (o : Option Open). held (without id runs) + unwrap_or (option_map (λ r. length r.octets) o) 0 ≡ held runs) there
+    subst (λ (o : Option Open). held (without id runs) + unwrap_or (option_map (λ r. length r.octets) o) 0 ≡ held runs)
+    there
     (sum_by-remove_entry (λ (r : Open). length r.octets) (is_at (nat_cmp id)) runs)
 
 -- how many octets a run had, if it was there
@@ -69,7 +71,8 @@ more_by_one n m false is = omega arith
 
 -- one more, in the place of one with its number
 pub more_held : (id : ℕ) (run : Open) (runs after : Runs) (lent : List ℕ) (count replaced : ℕ) (old : Option Open)
-    → IsStrictlySortedBy nat_cmp (keys_of runs) → AreHeld runs count → has_room (length lent) runs ≡ true → lent ≡ run.octets
+    → IsStrictlySortedBy nat_cmp (keys_of runs) → AreHeld runs count → has_room (length lent) runs ≡ true
+    → lent ≡ run.octets
     → old ≡ run_of id runs → after ≡ with_run id run runs → length after ≤ length runs + 1 → replaced ≡ len_of old
     → AreHeld after (count + length lent - replaced)
 more_held id run runs after lent count replaced old sorted all room own was is more less =
@@ -119,7 +122,8 @@ best_is_next (Some best) all seen next there earlier (run, was, place, least) =
       there,
       refl,
       All-push (λ (one : Bor ℕ × Bor Open). next.1.now.last ≤ one.1.now.last) seen next
-          (All-weaker (λ (one : Bor ℕ × Bor Open). best.1 ≤ one.1.now.last) (λ (one : Bor ℕ × Bor Open). next.1.now.last ≤ one.1.now.last)
+          (All-weaker (λ (one : Bor ℕ × Bor Open). best.1 ≤ one.1.now.last)
+          (λ (one : Bor ℕ × Bor Open). next.1.now.last ≤ one.1.now.last)
           (λ one (h : best.1 ≤ one.1.now.last). omega arith) seen least) (omega arith),
     )
 

@@ -6,11 +6,11 @@ ghost use Rattle.std.specs.Io.KnownBytes.{Appends, Keeps};
 ghost use Rattle.giop_dumps.specs.Outputs.{HasLines, IsBehindLines};
 ghost use Rattle.giop_dumps.specs.declared.fault.DumpFault.TheVariants.{Unwritten};
 
+use crate::captures::Side;
 use crate::dump::Dump;
 use crate::fault::{CutShort, DumpFault};
 use crate::patience::Patience;
 use crate::words::Words;
-use crate::captures::Side;
 use std::alloc::{AllocError, Global};
 use std::io::Write;
 

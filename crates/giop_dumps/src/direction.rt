@@ -3,8 +3,8 @@
 ghost use Rattle.std.specs.Prelude.{◌≡◌};
 ghost use Rattle.giop_dumps.specs.Lines.{fresh, waiting_of};
 
-use crate::open_runs::OpenRuns;
 use crate::captures::Backlog;
+use crate::open_runs::OpenRuns;
 use std::alloc::Global;
 
 /// How many of the next octets are none of a message that is read.

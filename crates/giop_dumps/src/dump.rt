@@ -5,11 +5,11 @@ ghost use Rattle.std.specs.String.{string_bytes};
 ghost use Rattle.giop_dumps.specs.Lines.{IsEndOf, IsPassed, IsStill, IsTold, IsToldEnd, IsToldOf, IsWaiting, fresh, line_of, of_other, of_side, waiting_of, with_octets};
 ghost use Rattle.giop_dumps.specs.OpenRuns.{AreWithin};
 
+use crate::captures::Side;
 use crate::direction::{Direction, Raw};
 use crate::front::{Front, front_in};
 use crate::told::{Told, told_end, told_front};
 use crate::words::Words;
-use crate::captures::Side;
 use std::alloc::{AllocError, Global};
 use std::marker::Model;
 
@@ -93,7 +93,8 @@ fn tell_front<W: Words>(
 ) -> Result<Option<String>, AllocError>
     ensures { IfOk result (λ o. MatchOption o
         (IsWaiting words.old (waiting_of own.old) (waiting_of own.new) words.new)
-        (λ text. IsToldOf W.says side words.old (waiting_of own.old) (waiting_of own.new) (string_bytes text) words.new)) }
+        (λ text. IsToldOf W.says side words.old (waiting_of own.old) (waiting_of own.new) (string_bytes text)
+        words.new)) }
 {
     let octets = own.backlog.octets.as_slice();
     let place = own.backlog.place;

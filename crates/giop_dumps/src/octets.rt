@@ -5,12 +5,12 @@ ghost use Rattle.std.specs.String.{string_bytes};
 ghost use Rattle.giop_dumps.specs.Outputs.{HasLines, IsBehindLines};
 
 use crate::capture::{Capture, front_lines, last_lines, tell_capture};
+use crate::captures::Side;
 use crate::dump::Dump;
 use crate::fault::{CutShort, DumpFault};
 use crate::patience::Patience;
 use crate::source::Source;
 use crate::words::Words;
-use crate::captures::Side;
 use std::alloc::{AllocError, Global};
 use std::io::{Read, Write};
 

@@ -4,12 +4,12 @@ ghost use Rattle.std.specs.Prelude.{◌≡◌, ◌≤◌, true, false, length, I
 ghost use Rattle.giop_dumps.specs.Outputs.{IsBehindLines};
 
 use crate::capture::{Capture, front_lines, last_lines, tell_capture};
+use crate::captures::{Backlog, CaptureFault, Side, Stage, follow_line};
 use crate::dump::Dump;
 use crate::fault::{CutShort, DumpFault};
 use crate::patience::Patience;
 use crate::source::Source;
 use crate::words::Words;
-use crate::captures::{Backlog, CaptureFault, Side, Stage, follow_line};
 use memchr::memchr;
 use std::alloc::{AllocError, Global};
 use std::io::{Read, Write};

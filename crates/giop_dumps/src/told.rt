@@ -6,6 +6,7 @@ ghost use Rattle.giop_messages.specs.Heads.{max_size};
 ghost use Rattle.giop_dumps.specs.OpenRuns.{IsBehind, is_followed, is_fragment, whole_at};
 ghost use Rattle.giop_dumps.specs.Tellings.{AreWords, EndsWith, IsEnd, IsFront, IsTelling, count_at, left_behind as left_behind_of, some_of};
 
+use crate::captures::Side;
 use crate::digits::{Digits, unread_lines};
 use crate::direction::Raw;
 use crate::front::{Front, front_in};
@@ -13,7 +14,6 @@ use crate::open::{OpenMessage, begins};
 use crate::open_runs::{OpenRuns, unfinished};
 use crate::unread::Unread;
 use crate::words::Words;
-use crate::captures::Side;
 use giop_messages::message_id;
 use std::alloc::{AllocError, Global};
 

@@ -68,7 +68,8 @@ judged_alone giop version flags size number head other long e off le =
     ∙ ap (λ (b : Bool). if b && not (may_go_on head.kind) then Err BadHead else Ok (head_of other long head.kind)) off
 
 -- fragments follow a request or a fragment alone
-on_typed : (flags size : ℕ) (kind : MessageKind) (head : Head) → typed flags size (Some kind) ≡ Ok head → goes_on flags ≡ true
+on_typed : (flags size : ℕ) (kind : MessageKind) (head : Head) → typed flags size (Some kind) ≡ Ok head
+    → goes_on flags ≡ true
     → may_go_on kind ≡ true
 on_typed flags size kind head e on =
     let p = past (goes_on flags && not (may_go_on kind)) BadHead (Ok (head_of flags size kind)) head e in

@@ -57,11 +57,13 @@ begins_longer None head message rest more =
     (longer_if more (is_cut head) (Broken BadFragment) (Piece (begun message) rest) (Broken BadFragment)
     (Piece (begun message) (rest ++ more)) refl refl) refl
 
-begins_shorter : (octets : List ℕ) (run : Option (List ℕ)) (head : Head) (message rest : List ℕ) → length rest < length octets
+begins_shorter : (octets : List ℕ) (run : Option (List ℕ)) (head : Head) (message rest : List ℕ)
+    → length rest < length octets
     → IsShorter octets (begins run head message rest)
 begins_shorter octets (Some run) head message rest less = tt
 begins_shorter octets None head message rest less =
-    shorter_if octets head.goes_on (if is_cut head then Broken BadFragment else Piece (begun message) rest) (Whole message)
+    shorter_if octets head.goes_on (if is_cut head then Broken BadFragment else Piece (begun message) rest)
+    (Whole message)
     (shorter_if octets (is_cut head) (Broken BadFragment) (Piece (begun message) rest) tt (λ e. less)) (λ e. tt)
 
 continues_longer : (run : Option (List ℕ)) (head : Head) (message rest more : List ℕ)
@@ -88,7 +90,8 @@ numbered_longer : (id : ℕ) (fault : FramingFault) (own longer : Front) (head :
     → IsLonger more own longer
     → IsLonger more (numbered id fault own head message rest) (numbered id fault longer head message (rest ++ more))
 numbered_longer id fault own longer head message rest more is =
-    longer_if more (nat_lt head.size 4) (Broken fault) (if nat_eq (id_in message) id then own else Passed rest) (Broken fault)
+    longer_if more (nat_lt head.size 4) (Broken fault) (if nat_eq (id_in message) id then own else Passed rest)
+    (Broken fault)
     (if nat_eq (id_in message) id then longer else Passed (rest ++ more)) refl
     (longer_if more (nat_eq (id_in message) id) own (Passed rest) longer (Passed (rest ++ more)) is refl)
 
@@ -102,7 +105,8 @@ placed_longer : (id : ℕ) (run : Option (List ℕ)) (kind : MessageKind) (head 
     → IsLonger more (placed id run kind head message rest) (placed id run kind head message (rest ++ more))
 placed_longer id run kinds.Request head message rest more = refl
 placed_longer id run kinds.Reply head message rest more =
-    numbered_longer id BadHead (begins run head message rest) (begins run head message (rest ++ more)) head message rest more
+    numbered_longer id BadHead (begins run head message rest) (begins run head message (rest ++ more)) head message rest
+    more
     (begins_longer run head message rest more)
 placed_longer id run kinds.CancelRequest head message rest more = refl
 placed_longer id run kinds.LocateRequest head message rest more = refl
@@ -110,10 +114,12 @@ placed_longer id run kinds.LocateReply head message rest more = refl
 placed_longer id run kinds.CloseConnection head message rest more = refl
 placed_longer id run kinds.MessageError head message rest more = refl
 placed_longer id run kinds.Fragment head message rest more =
-    numbered_longer id BadFragment (continues run head message rest) (continues run head message (rest ++ more)) head message
+    numbered_longer id BadFragment (continues run head message rest) (continues run head message (rest ++ more)) head
+    message
     rest more (continues_longer run head message rest more)
 
-placed_shorter : (octets : List ℕ) (id : ℕ) (run : Option (List ℕ)) (kind : MessageKind) (head : Head) (message rest : List ℕ)
+placed_shorter : (octets : List ℕ) (id : ℕ) (run : Option (List ℕ)) (kind : MessageKind) (head : Head)
+    (message rest : List ℕ)
     → length rest < length octets → IsShorter octets (placed id run kind head message rest)
 placed_shorter octets id run kinds.Request head message rest less = tt
 placed_shorter octets id run kinds.Reply head message rest less =
@@ -169,14 +175,17 @@ front_longer : (id : ℕ) (run : Option (List ℕ)) (octets more : List ℕ)
     → IsLonger more (front id run octets) (front id run (octets ++ more))
 front_longer id run octets more =
     longer_whole more (nat_lt (length octets) 12) (nat_lt (length (octets ++ more)) 12)
-    (front_behind id run octets (reply_head octets)) (front_behind id run (octets ++ more) (reply_head (octets ++ more)))
+    (front_behind id run octets (reply_head octets))
+    (front_behind id run (octets ++ more) (reply_head (octets ++ more)))
     (still_long 12 octets more)
     (λ e. subst
     (λ (said : Result Head FramingFault). IsLonger more (front_behind id run octets (reply_head octets))
     (front_behind id run (octets ++ more) said))
-    (sym (reply_longer octets more (ltb-false (length octets) 12 e))) (behind_longer id run octets more (reply_head octets)))
+    (sym (reply_longer octets more (ltb-false (length octets) 12 e)))
+    (behind_longer id run octets more (reply_head octets)))
 
-behind_shorter : (id : ℕ) (run : Option (List ℕ)) (octets : List ℕ) (said : Result Head FramingFault) → 12 ≤ length octets
+behind_shorter : (id : ℕ) (run : Option (List ℕ)) (octets : List ℕ) (said : Result Head FramingFault)
+    → 12 ≤ length octets
     → IsShorter octets (front_behind id run octets said)
 behind_shorter id run octets (Err fault) long = tt
 behind_shorter id run octets (Ok head) long =
@@ -212,7 +221,8 @@ front_of_none id run (octet ∷ more) le = absurd (omega (arith, le))
 heard_of_none : (n id : ℕ) (run : Option (List ℕ)) (octets : List ℕ) → length octets ≤ 0
     → heard_within n id run octets ≡ Waits run octets
 heard_of_none zero id run octets le = refl
-heard_of_none (suc n) id run octets le = ap (heard_front (heard_within n id) run octets) (front_of_none id run octets le)
+heard_of_none (suc n) id run octets le =
+    ap (heard_front (heard_within n id) run octets) (front_of_none id run octets le)
 
 enough : (n m id : ℕ) (run : Option (List ℕ)) (octets : List ℕ) → length octets ≤ n → length octets ≤ m
     → heard_within n id run octets ≡ heard_within m id run octets
@@ -238,11 +248,13 @@ heard_nothing id run octets le = heard_waits id run octets (front_of_none id run
 
 pub heard_broken : (id : ℕ) (run : Option (List ℕ)) (octets : List ℕ) (fault : FramingFault)
     → front id run octets ≡ Broken fault → heard_from id run octets ≡ Breaks fault
-heard_broken id run octets fault e = opened id run octets ∙ ap (heard_front (heard_within (length octets) id) run octets) e
+heard_broken id run octets fault e = opened id run octets
+    ∙ ap (heard_front (heard_within (length octets) id) run octets) e
 
 pub heard_reply : (id : ℕ) (run : Option (List ℕ)) (octets message : List ℕ)
     → front id run octets ≡ Whole message → heard_from id run octets ≡ Replies message
-heard_reply id run octets message e = opened id run octets ∙ ap (heard_front (heard_within (length octets) id) run octets) e
+heard_reply id run octets message e = opened id run octets
+    ∙ ap (heard_front (heard_within (length octets) id) run octets) e
 
 pub heard_end : (id : ℕ) (run : Option (List ℕ)) (octets : List ℕ) → front id run octets ≡ Closes
     → heard_from id run octets ≡ Ends
@@ -260,7 +272,8 @@ heard_passed id run octets rest e =
     ∙ ap (heard_front (heard_within (length octets) id) run octets) e
     ∙ enough (length octets) (length rest) id run rest (omega (arith, less)) (omega arith)
 
-pub heard_piece : (id : ℕ) (run : Option (List ℕ)) (octets joined rest : List ℕ) → front id run octets ≡ Piece joined rest
+pub heard_piece : (id : ℕ) (run : Option (List ℕ)) (octets joined rest : List ℕ)
+    → front id run octets ≡ Piece joined rest
     → heard_from id run octets ≡ heard_from id (Some joined) rest
 heard_piece id run octets joined rest e =
     let less : length rest < length octets = subst (IsShorter octets) e (front_shorter id run octets) in
@@ -296,7 +309,8 @@ pieces_front n id run octets more Fails longer short is same le further =
 pieces : (n id : ℕ) (run : Option (List ℕ)) (octets more : List ℕ) → length octets ≤ n → IsJoined n id run octets more
 pieces zero id run octets more le = refl
 pieces (suc n) id run octets more le =
-    pieces_front n id run octets more (front id run octets) (front id run (octets ++ more)) (front_shorter id run octets)
+    pieces_front n id run octets more (front id run octets) (front id run (octets ++ more))
+    (front_shorter id run octets)
     (front_longer id run octets more) refl le (λ run' rest less. pieces n id run' rest more less)
 
 pub in_pieces : (id : ℕ) (octets more : List ℕ) → heard id (octets ++ more) ≡ heard_more id (heard id octets) more

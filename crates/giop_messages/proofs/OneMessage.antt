@@ -17,7 +17,8 @@ use Rattle.giop_messages.specs.declared.message.ReplyStatus.{ReplyStatus}
 use Rattle.giop_messages.specs.declared.message.ReplyStatus.TheVariants.{NoException, UserException, SystemException, LocationForward, LocationForwardPerm, NeedsAddressingMode}
 use Rattle.giop_messages.proofs.OneKey.{keys_once}
 
-heads_same : (kind other : MessageKind) (octets : List ℕ) (a b : Head) → IsWhole kind octets a → IsWhole other octets b → a ≡ b
+heads_same : (kind other : MessageKind) (octets : List ℕ) (a b : Head) → IsWhole kind octets a → IsWhole other octets b
+    → a ≡ b
 heads_same kind other octets a b one two =
     let same : Ok a ≡ Ok b = sym one.is.head_is ∙ two.is.head_is in
     cc
@@ -55,7 +56,8 @@ answered_is a = refl
 answered_same : (a b : Answered) → a.id ≡ b.id → a.status ≡ b.status → a.order ≡ b.order → a.body_at ≡ b.body_at
     → a.body ≡ b.body → a ≡ b
 answered_same a b id status order at body =
-    let parts : answered a.id a.status a.order a.body_at a.body ≡ answered b.id b.status b.order b.body_at b.body = cc in
+    let parts : answered a.id a.status a.order a.body_at a.body ≡ answered b.id b.status b.order b.body_at b.body =
+    cc in
     sym (answered_is a) ∙ parts ∙ answered_is b
 
 sought : ℕ → Option (List ℕ) → Order → Sought

@@ -36,7 +36,8 @@ record Behind (r : Result Head FramingFault) (head : Head) : Type 0 where
   followed : Followed there head
 
 followed_if : (b : Bool) (there head : Head)
-    → (if b then Ok (record { kind = there.kind; order = there.order; goes_on = true; size = there.size }) else Err BadHead)
+    → (if b then Ok (record { kind = there.kind; order = there.order; goes_on = true; size = there.size })
+    else Err BadHead)
     ≡ Ok head → Followed there head
 followed_if true there head e =
     let same : record { kind = there.kind; order = there.order; goes_on = true; size = there.size } ≡ head = cc in
@@ -88,7 +89,8 @@ told message head le e = by_flag (goes_on (flags_in message)) refl e where
         flags_are = ap (λ (m : List ℕ). order_of (flags_in m)) message_is ∙ ap order_of flags ∙ w.1;
       }
   by_flag false off f =
-      let is : goes_on (flags_in message) ≡ head.goes_on = sym (ap (λ (h : Head). h.goes_on) (head_ok message head f).0) in
+      let is : goes_on (flags_in message) ≡ head.goes_on =
+      sym (ap (λ (h : Head). h.goes_on) (head_ok message head f).0) in
       let same : head ≡ lone head = heads_same head (lone head) refl refl (sym is ∙ off) refl in
       let message_is : alone message ≡ message = ap (λ (b : Bool). if b then begun message else message) off in
       record {
@@ -98,7 +100,8 @@ told message head le e = by_flag (goes_on (flags_in message)) refl e where
       }
 
 -- the message isn't too long
-pub limited : (message : List ℕ) (head : Head) → 12 ≤ length message → reply_head message ≡ Ok head → head.size ≤ max_size
+pub limited : (message : List ℕ) (head : Head) → 12 ≤ length message → reply_head message ≡ Ok head
+    → head.size ≤ max_size
 limited message head le e = (head_ok (alone message) (lone head) (told message head le e).head_is).1
 
 -- ---- what stands behind the 12 octets doesn't change what they say
@@ -114,7 +117,8 @@ reply_longer xs ys le =
     ap (λ (n : ℕ). if goes_on n then followed (head_in (begun (xs ++ ys))) else head_in (xs ++ ys)) flags
     ∙ ap₂ (λ (r s : Result Head FramingFault). if goes_on (flags_in xs) then followed r else s) one two
 
-pub reply_of_front : (n : ℕ) (octets : List ℕ) → 12 ≤ n → n ≤ length octets → reply_head (take n octets) ≡ reply_head octets
+pub reply_of_front : (n : ℕ) (octets : List ℕ) → 12 ≤ n → n ≤ length octets
+    → reply_head (take n octets) ≡ reply_head octets
 reply_of_front n octets le within =
     let long : 12 ≤ length (take n octets) = omega (arith, le, length-take-le n octets within) in
     sym (reply_longer (take n octets) (drop n octets) long) ∙ ap reply_head (take-append-drop n octets)
@@ -128,7 +132,8 @@ sent_at head octets e within = (
 )
 
 -- a message that others follow
-pub reply_on : (octets : List ℕ) → goes_on (flags_in octets) ≡ true → reply_head octets ≡ followed (head_in (begun octets))
+pub reply_on : (octets : List ℕ) → goes_on (flags_in octets) ≡ true
+    → reply_head octets ≡ followed (head_in (begun octets))
 reply_on octets e = ap (λ (b : Bool). if b then followed (head_in (begun octets)) else head_in octets) e
 
 -- ---- the 12 octets alone, without bit 1 of the flags
@@ -137,5 +142,6 @@ pub cleared : (octets front : List ℕ) (n : ℕ) → 12 ≤ length octets → n
     → front ≡ set (take 12 octets) 6 n → head_in front ≡ head_in (begun octets)
 cleared octets front n le e is =
     let long : 12 ≤ length (begun octets) = omega (arith, le, length-set octets 6 (flags_in octets - 2)) in
-    ap head_in (is ∙ ap (λ (k : ℕ). set (take 12 octets) 6 k) e ∙ sym (take-set-lt 12 octets 6 (flags_in octets - 2) (omega arith)))
+    ap head_in (is ∙ ap (λ (k : ℕ). set (take 12 octets) 6 k) e
+    ∙ sym (take-set-lt 12 octets 6 (flags_in octets - 2) (omega arith)))
     ∙ head_of_front 12 (begun octets) (omega arith) long

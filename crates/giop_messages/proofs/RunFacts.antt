@@ -37,7 +37,8 @@ sized_long message le =
     )
 
 -- bit 1 of flags that have it is taken away, and bit 0 stays
-pub without : (flags : ℕ) → goes_on flags ≡ true → (goes_on (flags - 2) ≡ false) × (order_of (flags - 2) ≡ order_of flags)
+pub without : (flags : ℕ) → goes_on flags ≡ true → (goes_on (flags - 2) ≡ false)
+    × (order_of (flags - 2) ≡ order_of flags)
 without flags on =
     let bit : flags / 2 % 2 ≡ 1 = eqb-true (flags / 2 % 2) 1 on in
     let off : (flags - 2) / 2 % 2 ≡ 0 = omega (arith, bit) in
@@ -99,7 +100,8 @@ number_back Little n rest fits =
 -- what octets say behind which more are added, and whose size is written anew
 sized_head : (run more : List ℕ) (head : Head) → head_in run ≡ Ok head → head.goes_on ≡ false → 12 ≤ length run
     → length (run ++ more) ≤ 12 + max_size
-    → head_in (sized (run ++ more)) ≡ Ok (head_of (flags_in (sized (run ++ more))) (length (run ++ more) - 12) head.kind)
+    → head_in (sized (run ++ more))
+    ≡ Ok (head_of (flags_in (sized (run ++ more))) (length (run ++ more) - 12) head.kind)
 sized_head run more head e alone le limit =
     let message = run ++ more in
     let n = length message - 12 in
@@ -146,7 +148,8 @@ joined_limit run fragment head le limit unbroken whole =
     (omega (arith, kept.0, whole), omega (arith, le, kept.0, kept.1, whole))
 
 -- how long a run is with a fragment
-pub added_long : (run fragment : List ℕ) → 12 ≤ length run → length (added run fragment) ≡ length run + (length fragment - 16)
+pub added_long : (run fragment : List ℕ) → 12 ≤ length run
+    → length (added run fragment) ≡ length run + (length fragment - 16)
 added_long run fragment le =
     let long = length-append run (drop 16 fragment) in
     omega (arith, le, long, length-drop 16 fragment, sized_long (run ++ drop 16 fragment) (omega (arith, le, long)))
@@ -173,7 +176,8 @@ added_alone kind run fragment is limit =
     }
 
 -- what is left by a call that adds a piece or nothing
-pub left : {T E : Type 0} (r : Result T E) (P : List ℕ → Type 0) (old more new : List ℕ) → OnOk r (new ≡ more) → OnErr r (new ≡ old)
+pub left : {T E : Type 0} (r : Result T E) (P : List ℕ → Type 0) (old more new : List ℕ) → OnOk r (new ≡ more)
+    → OnErr r (new ≡ old)
     → P old → P more → P new
 left (Ok t) P old more new added kept before after = subst P (sym added) after
 left (Err e) P old more new added kept before after = subst P (sym kept) before

@@ -79,7 +79,8 @@ refuses id first run all at e t = sym (heard_refusal id run (drop at all) t.fron
 -- nothing is left to hear
 pub nothing_left : (id : ℕ) (first run : Option (List ℕ)) (all : List ℕ) (at : ℕ)
     → heard_from id first all ≡ heard_from id run (drop at all) → length all ≤ at
-    → (rest : List ℕ) (left : Option (List ℕ)) → left ≡ run → rest ≡ drop at all → Waits left rest ≡ heard_from id first all
+    → (rest : List ℕ) (left : Option (List ℕ)) → left ≡ run → rest ≡ drop at all
+    → Waits left rest ≡ heard_from id first all
 nothing_left id first run all at e past rest left l r =
     let none : drop at all ≡ [] = drop_all at all past in
     ap (λ (o : Option (List ℕ)). Waits o rest) l ∙ ap (λ (x : List ℕ). Waits run x) r

@@ -22,13 +22,15 @@ left_out false x y e = refl
 
 -- ---- a message with a number
 
-pub passed : (id : ℕ) (fault : FramingFault) (own : Front) (head : Head) (message rest : List ℕ) → nat_lt head.size 4 ≡ false
+pub passed : (id : ℕ) (fault : FramingFault) (own : Front) (head : Head) (message rest : List ℕ)
+    → nat_lt head.size 4 ≡ false
     → nat_eq (id_in message) id ≡ false → numbered id fault own head message rest ≡ Passed rest
 passed id fault own head message rest e f =
     left_out (nat_lt head.size 4) (Broken fault) (if nat_eq (id_in message) id then own else Passed rest) e
     ∙ left_out (nat_eq (id_in message) id) own (Passed rest) f
 
-pub owned : (id : ℕ) (fault : FramingFault) (own : Front) (head : Head) (message rest : List ℕ) → nat_lt head.size 4 ≡ false
+pub owned : (id : ℕ) (fault : FramingFault) (own : Front) (head : Head) (message rest : List ℕ)
+    → nat_lt head.size 4 ≡ false
     → nat_eq (id_in message) id ≡ true → numbered id fault own head message rest ≡ own
 owned id fault own head message rest e f =
     left_out (nat_lt head.size 4) (Broken fault) (if nat_eq (id_in message) id then own else Passed rest) e
@@ -39,7 +41,8 @@ owned id fault own head message rest e f =
 pub front_long : (id : ℕ) (run : Option (List ℕ)) (octets : List ℕ) (r : Result Head FramingFault) → 12 ≤ length octets
     → reply_head octets ≡ r → front id run octets ≡ front_behind id run octets r
 front_long id run octets r le e =
-    left_out (nat_lt (length octets) 12) More (front_behind id run octets (reply_head octets)) (le-ltb (length octets) 12 le)
+    left_out (nat_lt (length octets) 12) More (front_behind id run octets (reply_head octets))
+    (le-ltb (length octets) 12 le)
     ∙ ap (front_behind id run octets) e
 
 pub front_whole : (id : ℕ) (run : Option (List ℕ)) (octets message : List ℕ) (head : Head) (n : ℕ) → 12 ≤ length octets

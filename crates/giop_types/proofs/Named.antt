@@ -13,7 +13,8 @@ either false b e = inr e
 contains_more : (x y : ℕ) (xs : List ℕ) → Contains xs y → Contains (x ∷ xs) y
 contains_more x y xs h = (suc h.0, omega (arith, h.1), h.2)
 
-named_in : (names : List (List ℕ × ℕ)) (node : ℕ) → list_any (λ name. nat_eq name.1 node) names ≡ true → IsNamed names node
+named_in : (names : List (List ℕ × ℕ)) (node : ℕ) → list_any (λ name. nat_eq name.1 node) names ≡ true
+    → IsNamed names node
 named_in [] node e = absurd (cc)
 named_in (name ∷ more) node e =
     elim (either (nat_eq name.1 node) (list_any (λ n. nat_eq n.1 node) more) e) [

@@ -11,7 +11,8 @@ use Rattle.giop_types.specs.declared.tapes.reading.Tagged.{Tagged}
 use Rattle.giop_types.specs.TapeParts.{counted, IsCounted, tagged, IsTagged, tagged_each, tagged_list, AreTagged, AreFront, pair_of, pairs_of}
 
 -- a number
-pub word_front : (m n : ℕ) (r s : List ℕ) → m < 2 ^ 32 → n < 2 ^ 32 → word Big Four (pos m) ++ r ≡ word Big Four (pos n) ++ s
+pub word_front : (m n : ℕ) (r s : List ℕ) → m < 2 ^ 32 → n < 2 ^ 32
+    → word Big Four (pos m) ++ r ≡ word Big Four (pos n) ++ s
     → (m ≡ n) × (r ≡ s)
 word_front m n r s hm hn e =
     let cut = cut_same (word Big Four (pos m)) (word Big Four (pos n)) r s refl e in
@@ -20,14 +21,17 @@ word_front m n r s hm hn e =
 -- counted octets
 pub counted_front : (a b r s : List ℕ) → IsCounted a → IsCounted b → counted a ++ r ≡ counted b ++ s → (a ≡ b) × (r ≡ s)
 counted_front a b r s ha hb e =
-    let moved = sym (append_assoc (word Big Four (pos (length a))) a r) ∙ e ∙ append_assoc (word Big Four (pos (length b))) b s in
+    let moved = sym (append_assoc (word Big Four (pos (length a))) a r) ∙ e
+    ∙ append_assoc (word Big Four (pos (length b))) b s in
     let first = word_front (length a) (length b) (a ++ r) (b ++ s) ha hb moved in
     cut_same a b r s first.0 first.1
 
 -- a tag with its octets
-pub tagged_front : (a b : ℕ × List ℕ) (r s : List ℕ) → IsTagged a → IsTagged b → tagged a ++ r ≡ tagged b ++ s → (a ≡ b) × (r ≡ s)
+pub tagged_front : (a b : ℕ × List ℕ) (r s : List ℕ) → IsTagged a → IsTagged b → tagged a ++ r ≡ tagged b ++ s
+    → (a ≡ b) × (r ≡ s)
 tagged_front a b r s ha hb e =
-    let moved = sym (append_assoc (word Big Four (pos a.0)) (counted a.1) r) ∙ e ∙ append_assoc (word Big Four (pos b.0)) (counted b.1) s in
+    let moved = sym (append_assoc (word Big Four (pos a.0)) (counted a.1) r) ∙ e
+    ∙ append_assoc (word Big Four (pos b.0)) (counted b.1) s in
     let first = word_front a.0 b.0 (counted a.1 ++ r) (counted b.1 ++ s) ha.tag hb.tag moved in
     let more = counted_front a.1 b.1 r s ha.octets hb.octets first.1 in
     (ap₂ (λ (x : ℕ) (y : List ℕ). (x, y)) first.0 more.0, more.1)
@@ -50,7 +54,8 @@ pub tagged_list_front : (xs ys : List (ℕ × List ℕ)) (r s : List ℕ) → Ar
 tagged_list_front xs ys r s hx hy e =
     let moved = sym (append_assoc (word Big Four (pos (length xs))) (tagged_each xs) r) ∙ e
     ∙ append_assoc (word Big Four (pos (length ys))) (tagged_each ys) s in
-    let first = word_front (length xs) (length ys) (tagged_each xs ++ r) (tagged_each ys ++ s) hx.short hy.short moved in
+    let first = word_front (length xs) (length ys) (tagged_each xs ++ r) (tagged_each ys ++ s) hx.short hy.short moved
+    in
     tagged_each_front xs ys r s first.0 hx.each hy.each first.1
 
 -- ---- the loop that reads them
@@ -61,7 +66,8 @@ no_front tape = record { many = refl; each = tt; front = refl }
 -- one more
 pub tagged_each-append : (xs ys : List (ℕ × List ℕ)) → tagged_each (xs ++ ys) ≡ tagged_each xs ++ tagged_each ys
 tagged_each-append [] ys = refl
-tagged_each-append (x ∷ xs) ys = ap (λ l. tagged x ++ l) (tagged_each-append xs ys) ∙ sym (append_assoc (tagged x) (tagged_each xs) (tagged_each ys))
+tagged_each-append (x ∷ xs) ys = ap (λ l. tagged x ++ l) (tagged_each-append xs ys)
+    ∙ sym (append_assoc (tagged x) (tagged_each xs) (tagged_each ys))
 
 pub front_more : (count : ℕ) (tape : List ℕ) (xs : List Tagged) (one : Tagged) (rest more : List ℕ)
     → AreFront count tape (pairs_of xs) rest → IsTagged (pair_of one) → rest ≡ tagged (pair_of one) ++ more
@@ -71,7 +77,8 @@ front_more count tape xs one rest more h is e =
     subst P (sym (map-append pair_of xs (one ∷ []))) (record {
       many = length-append (pairs_of xs) (pair_of one ∷ []) ∙ ap (λ n. n + 1) h.many;
       each = all_append IsTagged (pairs_of xs) (pair_of one ∷ []) h.each (is, tt);
-      front = h.front ∙ ap (λ l. tagged_each (pairs_of xs) ++ l) (e ∙ ap (λ l. l ++ more) (sym (append-nil (tagged (pair_of one)))))
+      front = h.front ∙ ap (λ l. tagged_each (pairs_of xs) ++ l)
+          (e ∙ ap (λ l. l ++ more) (sym (append-nil (tagged (pair_of one)))))
           ∙ sym (append_assoc (tagged_each (pairs_of xs)) (tagged_each (pair_of one ∷ [])) more)
           ∙ ap (λ l. l ++ more) (sym (tagged_each-append (pairs_of xs) (pair_of one ∷ [])));
     })
@@ -81,7 +88,8 @@ pub next_there : (xs ys : List (ℕ × List ℕ)) (r s : List ℕ) → length xs
     → AllByRecursion IsTagged ys → tagged_each xs ++ r ≡ tagged_each ys ++ s
     → ((one : ℕ × List ℕ) (rest : List ℕ) → IsTagged one → r ≡ tagged one ++ rest → ⊥) → ⊥
 next_there xs [] r s less hx hy e none = omega (arith, less)
-next_there [] (y ∷ ys) r s less hx hy e none = none y (tagged_each ys ++ s) hy.0 (e ∙ append_assoc (tagged y) (tagged_each ys) s)
+next_there [] (y ∷ ys) r s less hx hy e none =
+    none y (tagged_each ys ++ s) hy.0 (e ∙ append_assoc (tagged y) (tagged_each ys) s)
 next_there (x ∷ xs) (y ∷ ys) r s less hx hy e none =
     let moved = sym (append_assoc (tagged x) (tagged_each xs) r) ∙ e ∙ append_assoc (tagged y) (tagged_each ys) s in
     let first = tagged_front x y (tagged_each xs ++ r) (tagged_each ys ++ s) hx.0 hy.0 moved in

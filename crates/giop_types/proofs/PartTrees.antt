@@ -65,7 +65,8 @@ pub record OfStruct (members : List ℕ) (d : ℕ) (value : Tree) : Type 0 where
   pub is : value ≡ Items values
   pub fits : FitAll giop_nodes members values d
 
-pub struct_shape : (members : List ℕ) (value : Tree) (d : ℕ) → Fits giop_nodes (Struct members) value d → OfStruct members d value
+pub struct_shape : (members : List ℕ) (value : Tree) (d : ℕ) → Fits giop_nodes (Struct members) value d
+    → OfStruct members d value
 struct_shape members (Items values) d f = record { values = values; is = refl; fits = f }
 struct_shape members (Number (pos n)) d f = absurd f
 struct_shape members (Number (negsuc n)) d f = absurd f
@@ -128,15 +129,18 @@ pub octets_tape : (octets : List ℕ) → AllBelow 256 octets
 octets_tape octets below =
     ap₂ (λ (n : ℕ) (l : List ℕ). word Big Four (pos n) ++ l) (count_octets octets) (octet_tapes octets below)
 
-below_each : (octets : List ℕ) (d : ℕ) → FitAll giop_nodes (replicate (count (octet_trees octets)) 0) (octet_trees octets) d → AllBelow 256 octets
+below_each : (octets : List ℕ) (d : ℕ)
+    → FitAll giop_nodes (replicate (count (octet_trees octets)) 0) (octet_trees octets) d → AllBelow 256 octets
 below_each [] d f = tt
 below_each (octet ∷ more) d f = (f.0, below_each more d f.1)
 
 -- what octets fit says of them
-pub octets_below : (octets : List ℕ) (d : ℕ) → Fits giop_nodes (node_at giop_nodes 10) (octets_tree octets) d → AllBelow 256 octets
+pub octets_below : (octets : List ℕ) (d : ℕ) → Fits giop_nodes (node_at giop_nodes 10) (octets_tree octets) d
+    → AllBelow 256 octets
 octets_below octets d f = below_each octets (d - 1) f.2
 
-pub octets_counted : (octets : List ℕ) (d : ℕ) → Fits giop_nodes (node_at giop_nodes 10) (octets_tree octets) d → IsCounted octets
+pub octets_counted : (octets : List ℕ) (d : ℕ) → Fits giop_nodes (node_at giop_nodes 10) (octets_tree octets) d
+    → IsCounted octets
 octets_counted octets d f = omega (arith, f.1.short, count_octets octets)
 
 -- ---- a tag with octets
@@ -169,15 +173,19 @@ tagged_shape value d f =
     let struct = struct_shape (6 ∷ 10 ∷ []) value d f in
     subst OfTagged (sym struct.is) (tagged_members struct.values d struct.fits)
 
-pub tagged_tape : (one : ℕ × List ℕ) → IsBelow one → tape_of giop_nodes (node_at giop_nodes 11) (tagged_tree one) ≡ tagged one
+pub tagged_tape : (one : ℕ × List ℕ) → IsBelow one → tape_of giop_nodes (node_at giop_nodes 11) (tagged_tree one)
+    ≡ tagged one
 tagged_tape one below =
-    ap (λ l. word Big Four (pos one.0) ++ l) (append-nil (tape_of giop_nodes (node_at giop_nodes 10) (octets_tree one.1)) ∙ octets_tape one.1 below)
+    ap (λ l. word Big Four (pos one.0) ++ l)
+    (append-nil (tape_of giop_nodes (node_at giop_nodes 10) (octets_tree one.1)) ∙ octets_tape one.1 below)
 
 -- what a tag with octets fits says of them
-pub tagged_below : (one : ℕ × List ℕ) (d : ℕ) → Fits giop_nodes (node_at giop_nodes 11) (tagged_tree one) d → IsBelow one
+pub tagged_below : (one : ℕ × List ℕ) (d : ℕ) → Fits giop_nodes (node_at giop_nodes 11) (tagged_tree one) d
+    → IsBelow one
 tagged_below one d f = octets_below one.1 d f.1.0
 
-pub tagged_fits : (one : ℕ × List ℕ) (d : ℕ) → Fits giop_nodes (node_at giop_nodes 11) (tagged_tree one) d → IsTagged one
+pub tagged_fits : (one : ℕ × List ℕ) (d : ℕ) → Fits giop_nodes (node_at giop_nodes 11) (tagged_tree one) d
+    → IsTagged one
 tagged_fits one d f = record { tag = f.0; octets = octets_counted one.1 d f.1.0 }
 
 -- ---- a sequence of them
@@ -240,7 +248,8 @@ pub tagged_list_tape : (all : List (ℕ × List ℕ)) → AreBelow all
 tagged_list_tape all below =
     ap₂ (λ (n : ℕ) (l : List ℕ). word Big Four (pos n) ++ l) (count_tagged all) (tagged_tapes all below)
 
-all_fit : (all : List (ℕ × List ℕ)) (d : ℕ) → FitAll giop_nodes (replicate (count (tagged_trees all)) 11) (tagged_trees all) d
+all_fit : (all : List (ℕ × List ℕ)) (d : ℕ)
+    → FitAll giop_nodes (replicate (count (tagged_trees all)) 11) (tagged_trees all) d
     → AreBelow all × AllByRecursion IsTagged all
 all_fit [] d f = (tt, tt)
 all_fit (one ∷ more) d f =
@@ -248,7 +257,8 @@ all_fit (one ∷ more) d f =
     ((tagged_below one d f.0, rest.0), (tagged_fits one d f.0, rest.1))
 
 -- what a sequence of them fits says of them
-pub tagged_list_fits : (all : List (ℕ × List ℕ)) (d : ℕ) → Fits giop_nodes (node_at giop_nodes 12) (tagged_list_tree all) d
+pub tagged_list_fits : (all : List (ℕ × List ℕ)) (d : ℕ)
+    → Fits giop_nodes (node_at giop_nodes 12) (tagged_list_tree all) d
     → AreBelow all × AreTagged all
 tagged_list_fits all d f =
     let each = all_fit all (d - 1) f.2 in

@@ -7,11 +7,11 @@ ghost use Rattle.type_graph.specs.GraphRules.{IsGraph};
 ghost use Rattle.type_graph.specs.Refusal.{wants_memory};
 ghost use Rattle.giop_types.specs.GiopNodes.{body_nodes, giop_nodes, header_nodes, request_nodes};
 
+use std::alloc::{AllocError, Global};
 use type_graph::basic_types::{
     BOOLEAN, OBJECT, OCTET, OCTETS, SHORT, STRING, TAGGED, TAGGED_LIST, UNSIGNED_LONG,
     UNSIGNED_SHORT, basic_nodes,
 };
-use std::alloc::{AllocError, Global};
 use type_graph::{Arms, Graph, GraphFault, Members, Node};
 
 const RESERVED: u32 = 14;

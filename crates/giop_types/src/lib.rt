@@ -10,7 +10,6 @@ mod table;
 mod tapes;
 mod types;
 
-pub use type_graph::basic_types::OBJECT;
 pub use finding::find_value;
 pub use graph::{
     BOOLEAN_RESULT, CANCEL_REQUEST_HEADER, ID_ARGUMENT, LOCATE_REPLY_HEADER, LOCATE_REQUEST_HEADER,
@@ -23,4 +22,5 @@ pub use tapes::reading::{
     Tagged, split_octets, split_tagged, split_tagged_list, split_u8, split_u16, split_u32,
 };
 pub use tapes::writing::{push_octets, push_tagged, push_u8, push_u16, push_u32};
+pub use type_graph::basic_types::OBJECT;
 pub use types::GiopTypes;

@@ -11,8 +11,8 @@ use crate::graph::{
     NO_ARGUMENT, PROFILE_BODY_1_0, PROFILE_BODY_1_1, REPLY_HEADER, REQUEST_HEADER,
     SYSTEM_EXCEPTION, graph,
 };
-use type_graph::basic_types::OBJECT;
 use std::alloc::{AllocError, Global};
+use type_graph::basic_types::OBJECT;
 use type_graph::{GraphFault, Items};
 use type_model::{Model, Name};
 

@@ -11,9 +11,9 @@ ghost use Rattle.giop_words.specs.Bodies.{IsTextOfReply, Shows};
 use crate::frames::{Frames, Types};
 use crate::quoted::Quoted;
 use command_texts::call_texts::{Outcome, read_outcome};
+use giop::reply_bodies::SystemException;
 use giop::{Reply, ReplyStatus, Request};
 use reference_texts::{Ior, ReferenceFault, ior_to_text};
-use giop::reply_bodies::SystemException;
 use std::alloc::{AllocError, Global};
 
 /// The text of the arguments with which the body of a request begins; none where it begins with none of

@@ -7,8 +7,8 @@ ghost use Rattle.type_model.specs.Names.{IsNamed};
 use crate::names::Named;
 use giop::Giop;
 use giop_types::{BOOLEAN_RESULT, ID_ARGUMENT, NO_ARGUMENT};
-use type_model::part_names::PartNames;
 use position_checker::Accepted;
+use type_model::part_names::PartNames;
 
 /// What messages are told by: the types of GIOP, a table with the names of the parts of its types, and the
 /// names of none.

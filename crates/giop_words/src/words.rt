@@ -5,9 +5,9 @@ ghost use Rattle.std.specs.Prelude.{◌≤◌, length};
 use crate::asked::Requests;
 use crate::frames::Types;
 use crate::message::whole_lines;
+use giop_dumps::Words;
 use giop_dumps::captures::Side;
 use giop_messages::message_id;
-use giop_dumps::Words;
 use std::alloc::{AllocError, Global};
 
 /// The number of the type of replies (ISO/IEC 19500-2, GIOP message header).

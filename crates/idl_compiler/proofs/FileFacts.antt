@@ -13,7 +13,8 @@ use Rattle.idl_compiler.specs.declared.refusal.CompileRefusal.{CompileRefusal}
 use Rattle.idl_compiler.specs.declared.refusal.CompileRefusal.TheVariants.{Fault, TooLong, NoMemory}
 use Rattle.idl_compiler.specs.Files.{IsCompiledFile, IsNoText, IsRefusedFile, IsTold}
 
-pub no_text : (source : List ℕ) (refusal : CompileRefusal) → IsNoText source → IsTold refusal → IsRefusedFile source refusal
+pub no_text : (source : List ℕ) (refusal : CompileRefusal) → IsNoText source → IsTold refusal
+    → IsRefusedFile source refusal
 no_text source (Fault text) none told = inl none
 no_text source TooLong none told = absurd told
 no_text source NoMemory none told = tt
@@ -22,9 +23,12 @@ no_text source NoMemory none told = tt
 pub without_names : (source : List ℕ) (whole : NamedTable) → IsNamedTable source whole → IsCompiled source whole.settled
 without_names source whole h = record { definitions = h.definitions; text = h.text; table = h.table }
 
-pub compiled : (source : List ℕ) (settled : Settled) (result : Result CompiledFile CompileRefusal) → IsUtf8 source → IsCompiled source settled → IsRight settled.table
-    → IfOk result (λ file. Spells settled.table file.octets.items) → IfOk result (λ file. length file.octets.items ≤ 16777216)
-    → IfOk result (λ file. string_bytes file.line ≡ accepted settled.table) → IfOk result (λ file. file.is_planned ≡ settled.is_planned)
+pub compiled : (source : List ℕ) (settled : Settled) (result : Result CompiledFile CompileRefusal) → IsUtf8 source
+    → IsCompiled source settled → IsRight settled.table
+    → IfOk result (λ file. Spells settled.table file.octets.items)
+    → IfOk result (λ file. length file.octets.items ≤ 16777216)
+    → IfOk result (λ file. string_bytes file.line ≡ accepted settled.table)
+    → IfOk result (λ file. file.is_planned ≡ settled.is_planned)
     → IfOk result (IsCompiledFile source)
 compiled source settled (Ok file) text is right spelled within line planned = record {
   text = text;

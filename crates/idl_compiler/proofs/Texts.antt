@@ -14,12 +14,15 @@ touched place (p ∷ ps) = nat_eq place p.start
 
 abbrev seen_parts : ℕ → List TokenParts → List Seen
 seen_parts n [] = []
-seen_parts n (p ∷ ps) = record { kind = p.kind; text = p.text; token = (n, p); touches = touched p.«end» ps } ∷ seen_parts (n + 1) ps
+seen_parts n (p ∷ ps) = record { kind = p.kind; text = p.text; token = (n, p); touches = touched p.«end» ps }
+    ∷ seen_parts (n + 1) ps
 
 by_parts : (n : ℕ) (ts : List Token) → seen_from n ts ≡ seen_parts n (map parts_of ts)
 by_parts n [] = refl
 by_parts n (t ∷ []) = refl
-by_parts n (t ∷ u ∷ us) = ap (λ l. record { kind = t.kind; text = t.text.now; token = (n, parts_of t); touches = nat_eq (end_of t) u.start } ∷ l) (by_parts (n + 1) (u ∷ us))
+by_parts n (t ∷ u ∷ us) =
+    ap (λ l. record { kind = t.kind; text = t.text.now; token = (n, parts_of t); touches = nat_eq (end_of t) u.start }
+    ∷ l) (by_parts (n + 1) (u ∷ us))
 
 same_seen : (ts us : List Token) → map parts_of ts ≡ map parts_of us → seen_from 0 ts ≡ seen_from 0 us
 same_seen ts us e = rw (by_parts 0 ts, by_parts 0 us, e) refl

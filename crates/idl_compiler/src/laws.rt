@@ -13,10 +13,10 @@ ghost use Rattle.idl_compiler.specs.declared.choice.Settled.{Settled};
 ghost use Rattle.idl_compiler.specs.Refused.{IsFaultOf, IsRefused};
 
 use idl_lexer::laws::tokens_are_one;
+use idl_tree::tree_laws::laws::spec_is_one;
 use model_builder::laws as models;
 use scoped_names::laws::names_are_one;
 use shape_laws::laws::{names_are_of_the_shape, types_are_of_the_shape};
-use idl_tree::tree_laws::laws::spec_is_one;
 
 /// Definitions have at most one model.
 pub fn model_is_one()

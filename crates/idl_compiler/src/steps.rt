@@ -15,10 +15,10 @@ use idl_parser::parse;
 use idl_tree::spec::Spec;
 use model_builder::{Built, build};
 use optimiser::planned;
-use type_model::part_names::PartNames;
 use scoped_names::bind;
 use std::alloc::Global;
 use type_model::Model;
+use type_model::part_names::PartNames;
 
 /// A table, and the names of the parts of its types by the numbers of their nodes.
 #[derive(Drop)]

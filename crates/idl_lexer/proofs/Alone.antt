@@ -56,7 +56,8 @@ word_some (c ∷ cs) n w = omega (arith, w.whole, run_some is_word c cs (letter_
 
 escaped_alone : (s : List ℕ) (n inner : ℕ) → n ≡ inner + 1 → IsWord (drop 1 s) inner → IsWord (drop 1 (take n s)) inner
 escaped_alone s n inner e w =
-    let behind : drop 1 (take n s) ≡ take inner (drop 1 s) = drop_of_take 1 n s (omega arith) ∙ ap (λ k. take k (drop 1 s)) (omega arith) in
+    let behind : drop 1 (take n s) ≡ take inner (drop 1 s) = drop_of_take 1 n s (omega arith)
+    ∙ ap (λ k. take k (drop 1 s)) (omega arith) in
     rw behind (word_alone (drop 1 s) inner (word_some (drop 1 s) inner w) w)
 
 identifier_alone : (s : List ℕ) (n : ℕ) → 0 < n → IsIdentifier s n → IsIdentifier (take n s) n
@@ -93,7 +94,8 @@ is_mark_alone a b h =
 
 pub punctuation_len : (n a b : ℕ) → is_mark_of n a b ≡ true → (n ≡ 1) ⊎ (n ≡ 2)
 punctuation_len n a b h =
-    elim (or_true (n == 2 && is_pair a b) (n == 1 && is_one_of marks a && not (is_pair a b) && not (opens_comment a b)) h) [
+    elim (or_true (n == 2 && is_pair a b) (n == 1 && is_one_of marks a && not (is_pair a b) && not (opens_comment a b))
+    h) [
       | inl two ↦ inr (eqb-true n 2 (and_true (n == 2) (is_pair a b) two).0)
       | inr one ↦ (
           let outer = and_true (n == 1 && is_one_of marks a && not (is_pair a b)) (not (opens_comment a b)) one in
@@ -107,7 +109,8 @@ punctuation_alone s n h =
       | inl one ↦ (
           let first : slice_index (take n s) 0 ≡ slice_index s 0 = get_or-take n s 0 0 (omega arith) in
           let second : slice_index (take n s) 1 ≡ 0 = get_or_past (take n s) 1 0 (omega (arith, length-take n s)) in
-          let alone : is_mark_of 1 (slice_index s 0) 0 ≡ true = is_mark_alone (slice_index s 0) (slice_index s 1) (rw one at h) in
+          let alone : is_mark_of 1 (slice_index s 0) 0 ≡ true =
+          is_mark_alone (slice_index s 0) (slice_index s 1) (rw one at h) in
           ap (λ k. is_mark_of k (slice_index (take n s) 0) (slice_index (take n s) 1)) one
           ∙ ap (λ a. is_mark_of 1 a (slice_index (take n s) 1)) first
           ∙ ap (is_mark_of 1 (slice_index s 0)) second
@@ -125,7 +128,8 @@ number_alone s n i =
       form = rw same i.form;
     }
 
-digits_alone : (test : ℕ → Bool) (radix most : ℕ) (s : List ℕ) (n v k : ℕ) → n ≤ k → IsEscapeDigits test radix most s n v → IsEscapeDigits test radix most (take k s) n v
+digits_alone : (test : ℕ → Bool) (radix most : ℕ) (s : List ℕ) (n v k : ℕ) → n ≤ k
+    → IsEscapeDigits test radix most s n v → IsEscapeDigits test radix most (take k s) n v
 digits_alone test radix most s n v k le d = record {
   some = d.some;
   whole = omega (arith, d.whole, run-take test k s);
@@ -133,7 +137,8 @@ digits_alone test radix most s n v k le d = record {
 }
 
 -- a character is one also where the text is cut behind it
-pub IsCharacter-take : (quote : ℕ) (s : List ℕ) (n v k : ℕ) → n ≤ k → IsCharacter quote s n v → IsCharacter quote (take k s) n v
+pub IsCharacter-take : (quote : ℕ) (s : List ℕ) (n v k : ℕ) → n ≤ k → IsCharacter quote s n v
+    → IsCharacter quote (take k s) n v
 IsCharacter-take quote s n v k le (plain some here is one) =
     plain (omega (arith, length-take k s)) (get_or-take k s 0 0 (omega arith) ∙ here) is one
 IsCharacter-take quote s n v k le (letter b e is two) =
@@ -141,16 +146,20 @@ IsCharacter-take quote s n v k le (letter b e is two) =
     letter (get_or-take k s 0 0 (omega arith) ∙ b) (rw second e) (rw second is) two
 IsCharacter-take quote s n v k le (octal m b digits small e) =
     let behind : drop 1 (take k s) ≡ take (k - 1) (drop 1 s) = drop_of_take 1 k s (omega arith) in
-    octal m (get_or-take k s 0 0 (omega arith) ∙ b) (rw behind (digits_alone is_octal 8 3 (drop 1 s) m v (k - 1) (omega arith) digits)) small e
+    octal m (get_or-take k s 0 0 (omega arith) ∙ b)
+    (rw behind (digits_alone is_octal 8 3 (drop 1 s) m v (k - 1) (omega arith) digits)) small e
 IsCharacter-take quote s n v k le (hexadecimal m b x digits e) =
     let behind : drop 2 (take k s) ≡ take (k - 2) (drop 2 s) = drop_of_take 2 k s (omega arith) in
-    hexadecimal m (get_or-take k s 0 0 (omega arith) ∙ b) (get_or-take k s 1 0 (omega arith) ∙ x) (rw behind (digits_alone is_ascii_hexdigit 16 2 (drop 2 s) m v (k - 2) (omega arith) digits)) e
+    hexadecimal m (get_or-take k s 0 0 (omega arith) ∙ b) (get_or-take k s 1 0 (omega arith) ∙ x)
+    (rw behind (digits_alone is_ascii_hexdigit 16 2 (drop 2 s) m v (k - 2) (omega arith) digits)) e
 
-pub AreCharacters-take : (quote : ℕ) (s : List ℕ) (m k : ℕ) (vs : List ℕ) → m ≤ k → AreCharacters quote s m vs → AreCharacters quote (take k s) m vs
+pub AreCharacters-take : (quote : ℕ) (s : List ℕ) (m k : ℕ) (vs : List ℕ) → m ≤ k → AreCharacters quote s m vs
+    → AreCharacters quote (take k s) m vs
 AreCharacters-take quote s m k vs le (none s1) = none (take k s)
 AreCharacters-take quote s m k vs le (more s1 n v m1 k1 vs1 char nz rest e) =
     let behind : drop n (take k s) ≡ take (k - n) (drop n s) = drop_of_take n k s (omega arith) in
-    more (take k s) n v m1 m vs1 (IsCharacter-take quote s n v k (omega arith) char) nz (rw behind (AreCharacters-take quote (drop n s) m1 (k - n) vs1 (omega arith) rest)) e
+    more (take k s) n v m1 m vs1 (IsCharacter-take quote s n v k (omega arith) char) nz
+    (rw behind (AreCharacters-take quote (drop n s) m1 (k - n) vs1 (omega arith) rest)) e
 
 char_alone : (s : List ℕ) (n : ℕ) → IsCharLiteral s n → IsCharLiteral (take n s) n
 char_alone s n t =
@@ -158,7 +167,8 @@ char_alone s n t =
       opens = get_or-take n s 0 0 (omega (arith, t.length)) ∙ t.opens;
       value = t.value;
       inner = t.inner;
-      character = rw behind (IsCharacter-take 39 (drop 1 s) t.inner t.value (n - 1) (omega (arith, t.length)) t.character);
+      character = rw behind (IsCharacter-take 39 (drop 1 s) t.inner t.value (n - 1) (omega (arith, t.length))
+          t.character);
       closes = get_or-take n s (t.inner + 1) 0 (omega (arith, t.length)) ∙ t.closes;
       length = t.length;
     }
@@ -169,26 +179,31 @@ text_alone s n t =
       opens = get_or-take n s 0 0 (omega (arith, t.length)) ∙ t.opens;
       octets = t.octets;
       inner = t.inner;
-      characters = rw behind (AreCharacters-take 34 (drop 1 s) t.inner (n - 1) t.octets (omega (arith, t.length)) t.characters);
+      characters = rw behind (AreCharacters-take 34 (drop 1 s) t.inner (n - 1) t.octets (omega (arith, t.length))
+          t.characters);
       closes = get_or-take n s (t.inner + 1) 0 (omega (arith, t.length)) ∙ t.closes;
       length = t.length;
     }
 
 pragma_alone : (before s : List ℕ) (n : ℕ) → IsPragmaLine before s n → IsPragmaLine [] (take n s) n
 pragma_alone before s n t =
-    let long : length (line_of s) ≡ run (λ c. not (is_line_feed c)) s = length-prefix_len (λ c. not (is_line_feed c)) s in
+    let long : length (line_of s) ≡ run (λ c. not (is_line_feed c)) s =
+    length-prefix_len (λ c. not (is_line_feed c)) s in
     let here : n ≡ run (λ c. not (is_line_feed c)) s = t.whole ∙ long in
     let again : run (λ c. not (is_line_feed c)) (take n s) ≡ n = sym (whole_run (λ c. not (is_line_feed c)) s n here) in
-    let line : line_of (take n s) ≡ line_of s = ap (λ k. take k (take n s)) again ∙ take-take n n s (omega arith) ∙ ap (λ k. take k s) here in record {
+    let line : line_of (take n s) ≡ line_of s = ap (λ k. take k (take n s)) again ∙ take-take n n s (omega arith)
+    ∙ ap (λ k. take k s) here in record {
       fresh = record { start = 0; within = omega arith; begins = inl refl; blank = refl };
       ascii = rw line t.ascii;
       form = rw line t.form;
       whole = t.whole ∙ ap length (sym line);
     }
 
-pub Begins-alone : (kind : Kind) (before s : List ℕ) (n : ℕ) → 0 < n → Begins kind before s n → Begins kind [] (take n s) n
+pub Begins-alone : (kind : Kind) (before s : List ℕ) (n : ℕ) → 0 < n → Begins kind before s n
+    → Begins kind [] (take n s) n
 Begins-alone Ident before s n some t = identifier_alone s n some t
-Begins-alone Keyword before s n some t = record { word = word_alone s n some t.word; listed = keyword_alone s n t.listed }
+Begins-alone Keyword before s n some t =
+    record { word = word_alone s n some t.word; listed = keyword_alone s n t.listed }
 Begins-alone Punct before s n some t = punctuation_alone s n t
 Begins-alone Number before s n some t = number_alone s n t
 Begins-alone CharLit before s n some t = char_alone s n t
@@ -196,7 +211,8 @@ Begins-alone TextLit before s n some t = text_alone s n t
 Begins-alone Pragma before s n some t = pragma_alone before s n t
 
 -- so what is cut out of a source has the form of its kind
-pub HasForm-cut : (kind : Kind) (before s : List ℕ) (n : ℕ) → 0 < n → n ≤ length s → Begins kind before s n → HasForm kind (take n s)
+pub HasForm-cut : (kind : Kind) (before s : List ℕ) (n : ℕ) → 0 < n → n ≤ length s → Begins kind before s n
+    → HasForm kind (take n s)
 HasForm-cut kind before s n some within t =
     let long : length (take n s) ≡ n = omega (arith, length-take n s) in
     ∣ rw long (Begins-alone kind before s n some t) ∣₁

@@ -13,11 +13,14 @@ use Rattle.idl_lexer.specs.Readings.{reading, hex_reading, octal_reading, letter
 use Rattle.idl_lexer.specs.Literals.{is_escape_letter, is_plain, AreCharacters, ClosedCharacters, none, more, IsCharacter, plain, letter, octal, hexadecimal}
 
 -- one more at the end
-pub AreCharacters-push : (quote : ℕ) (s : List ℕ) (m n v k : ℕ) (vs : List ℕ) → AreCharacters quote s m vs → IsCharacter quote (drop m s) n v → v ≢ 0 → k ≡ m + n → AreCharacters quote s k (vs ++ v ∷ [])
-AreCharacters-push quote s m n v k vs (none s2) char other e = more _ n v 0 k [] char other (none (drop n s)) (omega arith)
+pub AreCharacters-push : (quote : ℕ) (s : List ℕ) (m n v k : ℕ) (vs : List ℕ) → AreCharacters quote s m vs
+    → IsCharacter quote (drop m s) n v → v ≢ 0 → k ≡ m + n → AreCharacters quote s k (vs ++ v ∷ [])
+AreCharacters-push quote s m n v k vs (none s2) char other e =
+    more _ n v 0 k [] char other (none (drop n s)) (omega arith)
 AreCharacters-push quote s m n v k vs (more s2 n1 v1 m1 k1 vs1 first nz rest e1) char other e =
     let place : drop k1 s ≡ drop m1 (drop n1 s) = ap (λ j. drop j s) e1 ∙ sym (drop-drop m1 n1 s) in
-    more _ n1 v1 (m1 + n) k (vs1 ++ v ∷ []) first nz (AreCharacters-push quote (drop n1 s) m1 n v (m1 + n) vs1 rest (rw place at char) other refl) (omega arith)
+    more _ n1 v1 (m1 + n) k (vs1 ++ v ∷ []) first nz
+    (AreCharacters-push quote (drop n1 s) m1 n v (m1 + n) vs1 rest (rw place at char) other refl) (omega arith)
 
 -- what one of these octets passes
 pub one_passes : (p : ℕ → Bool) (ds : List ℕ) (c : ℕ) → list_all p ds ≡ true → is_one_of ds c ≡ true → p c ≡ true
@@ -37,7 +40,9 @@ plain_no_backslash quote v h = grind (arith, nat_tests)
 first_octal : (s : List ℕ) → 0 < run is_octal s → is_octal (slice_index s 0) ≡ true
 first_octal s h = prefix_len_passes is_octal s 0 0 h
 
-pick : (s : List ℕ) (b0 b1 b2 : Bool) → (slice_index s 0 == 92) ≡ b0 → (slice_index s 1 == 120) ≡ b1 → is_octal (slice_index s 1) ≡ b2 → reading s ≡ cond b0 (cond b1 (hex_reading s) (cond b2 (octal_reading s) (letter_reading s))) (plain_reading s)
+pick : (s : List ℕ) (b0 b1 b2 : Bool) → (slice_index s 0 == 92) ≡ b0 → (slice_index s 1 == 120) ≡ b1
+    → is_octal (slice_index s 1) ≡ b2
+    → reading s ≡ cond b0 (cond b1 (hex_reading s) (cond b2 (octal_reading s) (letter_reading s))) (plain_reading s)
 pick s b0 b1 b2 e0 e1 e2 = rw (e0, e1, e2) refl
 
 letter_no_x : (c : ℕ) → is_escape_letter c ≡ true → (c == 120) ≡ false
@@ -50,21 +55,35 @@ octal_no_x : (c : ℕ) → is_octal c ≡ true → (c == 120) ≡ false
 octal_no_x c h = grind (arith, nat_tests)
 
 -- a character is read in one way
-pub IsCharacter-reading : (quote : ℕ) (s : List ℕ) (n v : ℕ) → IsCharacter quote s n v → (n ≡ (reading s).len) × (v ≡ (reading s).value)
+pub IsCharacter-reading : (quote : ℕ) (s : List ℕ) (n v : ℕ) → IsCharacter quote s n v
+    → (n ≡ (reading s).len) × (v ≡ (reading s).value)
 IsCharacter-reading quote s n v (plain some here is one) =
     let other : (slice_index s 0 == 92) ≡ false = ap (λ c. c == 92) here ∙ plain_no_backslash quote v is in
-    let r : reading s ≡ plain_reading s = pick s false (slice_index s 1 == 120) (is_octal (slice_index s 1)) other refl refl in
+    let r : reading s ≡ plain_reading s =
+    pick s false (slice_index s 1 == 120) (is_octal (slice_index s 1)) other refl refl in
     (one ∙ sym (ap (λ q. q.len) r), sym here ∙ sym (ap (λ q. q.value) r))
 IsCharacter-reading quote s n v (letter b e is two) =
-    let r : reading s ≡ letter_reading s = pick s true false false (eq-eqb (slice_index s 0) 92 b) (letter_no_x (slice_index s 1) e) (letter_no_octal (slice_index s 1) e) in
+    let r : reading s ≡ letter_reading s =
+    pick s true false false (eq-eqb (slice_index s 0) 92 b) (letter_no_x (slice_index s 1) e)
+    (letter_no_octal (slice_index s 1) e) in
     (two ∙ sym (ap (λ q. q.len) r), is ∙ sym (ap (λ q. q.value) r))
 IsCharacter-reading quote s n v (octal m b digits small e) =
-    let first : is_octal (slice_index s 1) ≡ true = ap is_octal (sym (get_or_after_one s 0 0)) ∙ first_octal (drop 1 s) (omega (arith, digits.some, digits.whole)) in
-    let r : reading s ≡ octal_reading s = pick s true false true (eq-eqb (slice_index s 0) 92 b) (octal_no_x (slice_index s 1) first) first in
-    (e ∙ ap (λ k. k + 1) digits.whole ∙ sym (ap (λ q. q.len) r), digits.value ∙ ap (λ k. digits_value 8 (take k (drop 1 s))) digits.whole ∙ sym (ap (λ q. q.value) r))
+    let first : is_octal (slice_index s 1) ≡ true = ap is_octal (sym (get_or_after_one s 0 0))
+    ∙ first_octal (drop 1 s) (omega (arith, digits.some, digits.whole)) in
+    let r : reading s ≡ octal_reading s =
+    pick s true false true (eq-eqb (slice_index s 0) 92 b) (octal_no_x (slice_index s 1) first) first in (
+      e ∙ ap (λ k. k + 1) digits.whole ∙ sym (ap (λ q. q.len) r),
+      digits.value
+          ∙ ap (λ k. digits_value 8 (take k (drop 1 s))) digits.whole ∙ sym (ap (λ q. q.value) r),
+    )
 IsCharacter-reading quote s n v (hexadecimal m b x digits e) =
-    let r : reading s ≡ hex_reading s = pick s true true (is_octal (slice_index s 1)) (eq-eqb (slice_index s 0) 92 b) (eq-eqb (slice_index s 1) 120 x) refl in
-    (e ∙ ap (λ k. k + 2) digits.whole ∙ sym (ap (λ q. q.len) r), digits.value ∙ ap (λ k. digits_value 16 (take k (drop 2 s))) digits.whole ∙ sym (ap (λ q. q.value) r))
+    let r : reading s ≡ hex_reading s =
+    pick s true true (is_octal (slice_index s 1)) (eq-eqb (slice_index s 0) 92 b) (eq-eqb (slice_index s 1) 120 x)
+    refl in (
+      e ∙ ap (λ k. k + 2) digits.whole ∙ sym (ap (λ q. q.len) r),
+      digits.value
+          ∙ ap (λ k. digits_value 16 (take k (drop 2 s))) digits.whole ∙ sym (ap (λ q. q.value) r),
+    )
 
 pub same_value : (p q : ℕ) (s : List ℕ) (m n v w : ℕ) → IsCharacter p s m v → IsCharacter q s n w → v ≡ w
 same_value p q s m n v w a b = (IsCharacter-reading p s m v a).1 ∙ sym (IsCharacter-reading q s n w b).1
@@ -91,15 +110,25 @@ ClosedCharacters-step s other c = from s c.octets c.inner other c.characters c.c
       value = v;
       character = char;
       nonzero = nz;
-      next = record { octets = vs1; inner = m; characters = rest; closes = get_or-drop n s m 0 ∙ ap (slice_index s) (sym e) ∙ closes };
+      next = record {
+        octets = vs1;
+        inner = m;
+        characters = rest;
+        closes =
+            get_or-drop n s m 0 ∙ ap (slice_index s) (sym e) ∙ closes;
+      };
       same = refl;
     }
 
 -- the same, at the length that the code reads
-pub Step-at : (s octets : List ℕ) (len value : ℕ) → Step s octets → IsCharacter 34 s len value → (next : ClosedCharacters (drop len s)) × (octets ≡ value ∷ next.octets)
-Step-at s octets len value step char = moved s octets step.len len step.value value (same_len 34 34 s step.len len step.value value step.character char) (same_value 34 34 s step.len len step.value value step.character char) step.next step.same
+pub Step-at : (s octets : List ℕ) (len value : ℕ) → Step s octets → IsCharacter 34 s len value
+    → (next : ClosedCharacters (drop len s)) × (octets ≡ value ∷ next.octets)
+Step-at s octets len value step char =
+    moved s octets step.len len step.value value (same_len 34 34 s step.len len step.value value step.character char)
+    (same_value 34 34 s step.len len step.value value step.character char) step.next step.same
   where
-    moved : (s octets : List ℕ) (m n v w : ℕ) → m ≡ n → v ≡ w → (next : ClosedCharacters (drop m s)) → octets ≡ v ∷ next.octets → (next : ClosedCharacters (drop n s)) × (octets ≡ w ∷ next.octets)
+    moved : (s octets : List ℕ) (m n v w : ℕ) → m ≡ n → v ≡ w → (next : ClosedCharacters (drop m s))
+        → octets ≡ v ∷ next.octets → (next : ClosedCharacters (drop n s)) × (octets ≡ w ∷ next.octets)
     moved s octets m n v w e f next same =
         let P : ℕ → Type 0 = λ k. (next : ClosedCharacters (drop k s)) × (octets ≡ v ∷ next.octets) in
         let Q : ℕ → Type 0 = λ u. (next : ClosedCharacters (drop n s)) × (octets ≡ u ∷ next.octets) in

@@ -15,10 +15,12 @@ AllDigits-IsAscii radix [] high all i = omega arith
 AllDigits-IsAscii radix (c ∷ cs) high all zero = digit_ascii c radix high all.0
 AllDigits-IsAscii radix (c ∷ cs) high all (suc i) = AllDigits-IsAscii radix cs high all.1 i
 
-all_digits : (test : ℕ → Bool) (radix n : ℕ) (s : List ℕ) → ((c : ℕ) → test c ≡ true → digit_value c < radix) → n ≤ run test s → AllDigits radix (take n s)
+all_digits : (test : ℕ → Bool) (radix n : ℕ) (s : List ℕ) → ((c : ℕ) → test c ≡ true → digit_value c < radix)
+    → n ≤ run test s → AllDigits radix (take n s)
 all_digits test radix zero s are le = tt
 all_digits test radix (suc n) [] are le = absurd (omega arith)
-all_digits test radix (suc n) (c ∷ cs) are le = (are c (passes (test c) le), all_digits test radix n cs are (rest_of (test c) le))
+all_digits test radix (suc n) (c ∷ cs) are le =
+    (are c (passes (test c) le), all_digits test radix n cs are (rest_of (test c) le))
   where
     passes : (b : Bool) → suc n ≤ cond b (1 + run test cs) 0 → b ≡ true
     passes true h = refl

@@ -11,7 +11,8 @@ pub data IsRest (s : List ℕ) (last : ℕ) : ℕ → Type 0 where
 
 before_rest : (s : List ℕ) (i j last : ℕ) → IsFileText s i j → IsRest s last j → IsRest s last i
 before_rest s i j last none rest = rest
-before_rest s i j last (plain k m text quote slash e) rest = before_rest s i k last text (one k quote slash (rw e at rest))
+before_rest s i j last (plain k m text quote slash e) rest =
+    before_rest s i k last text (one k quote slash (rw e at rest))
 before_rest s i j last (hidden k m text slash e) rest = before_rest s i k last text (two k slash (rw e at rest))
 
 pub whole_rest : (s r : List ℕ) (f : IsFile s r) → IsRest s f.last 1
@@ -29,13 +30,16 @@ at_quote s last i e (one j quote slash rest) = absurd (quote e)
 at_quote s last i e (two j slash rest) = absurd (omega arith)
 
 -- elsewhere it goes on
-pub behind_one : (s : List ℕ) (last i : ℕ) → slice_index s last ≡ 34 → slice_index s i ≢ 34 → slice_index s i ≢ 92 → IsRest s last i → IsRest s last (i + 1)
+pub behind_one : (s : List ℕ) (last i : ℕ) → slice_index s last ≡ 34 → slice_index s i ≢ 34 → slice_index s i ≢ 92
+    → IsRest s last i → IsRest s last (i + 1)
 behind_one s last i closes quote slash (done j e) = absurd (quote (ap (slice_index s) e ∙ closes))
 behind_one s last i closes quote slash (one j quote2 slash2 rest) = rest
 behind_one s last i closes quote slash (two j here rest) = absurd (slash here)
 
-pub behind_two : (s : List ℕ) (last i : ℕ) → slice_index s last ≡ 34 → slice_index s i ≡ 92 → IsRest s last i → IsRest s last (i + 2)
-behind_two s last i closes slash (done j e) = let no : slice_index s i ≡ 34 = ap (slice_index s) e ∙ closes in absurd (omega arith)
+pub behind_two : (s : List ℕ) (last i : ℕ) → slice_index s last ≡ 34 → slice_index s i ≡ 92 → IsRest s last i
+    → IsRest s last (i + 2)
+behind_two s last i closes slash (done j e) = let no : slice_index s i ≡ 34 = ap (slice_index s) e ∙ closes in
+    absurd (omega arith)
 behind_two s last i closes slash (one j quote other rest) = absurd (other slash)
 behind_two s last i closes slash (two j here rest) = rest
 

@@ -64,14 +64,16 @@ at_inner s j k e h = rw e at h
 behind_inner : (s : List ℕ) (i j k : ℕ) → i + j ≡ k → Inner (slice_index (drop i s) j) → Inner (slice_index s k)
 behind_inner s i j k e h = at_inner s (i + j) k e (rw (get_or-drop i s j 0) at h)
 
-escaped_inner : (s : List ℕ) (inner k : ℕ) → slice_index s 0 ≡ 95 → IsWord (drop 1 s) inner → k < inner + 1 → Inner (slice_index s k)
+escaped_inner : (s : List ℕ) (inner k : ℕ) → slice_index s 0 ≡ 95 → IsWord (drop 1 s) inner → k < inner + 1
+    → Inner (slice_index s k)
 escaped_inner s inner zero u w lt = numeral _ 95 u (omega arith) (omega arith)
 escaped_inner s inner (suc m) u w lt =
     behind_inner s 1 m (suc m) (omega arith) (word_inner _ (run_at is_word (drop 1 s) inner m w.whole (omega arith)))
 
 identifier_inner : (s : List ℕ) (n k : ℕ) → IsIdentifier s n → k < n → Inner (slice_index s k)
 identifier_inner s n k (inl name) lt = word_inner _ (run_at is_word s n k name.word.whole lt)
-identifier_inner s n k (inr name) lt = escaped_inner s name.inner k name.underscore name.word (omega (arith, name.length))
+identifier_inner s n k (inr name) lt =
+    escaped_inner s name.inner k name.underscore name.word (omega (arith, name.length))
 
 pub and_true : (a b : Bool) → (a && b) ≡ true → (a ≡ true) × (b ≡ true)
 and_true true b h = (refl, h)
@@ -113,7 +115,8 @@ punctuation_inner s n k h lt =
     let b = slice_index s 1 in
     let single = n == 1 && is_one_of marks a in
     elim (or_true (n == 2 && is_pair a b) (single && not (is_pair a b) && not (opens_comment a b)) h) [
-      | inl two ↦ (let both = and_true (n == 2) (is_pair a b) two in pair_inner s k both.1 (omega (arith, eqb-true n 2 both.0)))
+      | inl two ↦ (let both = and_true (n == 2) (is_pair a b) two in
+          pair_inner s k both.1 (omega (arith, eqb-true n 2 both.0)))
       | inr one ↦ (
           let outer = and_true (single && not (is_pair a b)) (not (opens_comment a b)) one in
           let inner = and_true single (not (is_pair a b)) outer.0 in
@@ -121,21 +124,29 @@ punctuation_inner s n k h lt =
           at_inner s 0 k (omega (arith, eqb-true n 1 both.0)) (mark_inner a both.1))
     ]
 
-octal_digits : (s : List ℕ) (m k : ℕ) → slice_index s 0 ≡ 92 → m ≤ run is_octal (drop 1 s) → k < m + 1 → Inner (slice_index s k)
+octal_digits : (s : List ℕ) (m k : ℕ) → slice_index s 0 ≡ 92 → m ≤ run is_octal (drop 1 s) → k < m + 1
+    → Inner (slice_index s k)
 octal_digits s m zero b some lt = numeral _ 92 b (omega arith) (omega arith)
 octal_digits s m (suc j) b some lt =
     behind_inner s 1 j (suc j) (omega arith) (octal_inner _ (run_at is_octal (drop 1 s) _ j refl (omega arith)))
 
-hex_digits : (s : List ℕ) (m k : ℕ) → slice_index s 0 ≡ 92 → slice_index s 1 ≡ 120 → m ≤ run is_ascii_hexdigit (drop 2 s) → k < m + 2 → Inner (slice_index s k)
+hex_digits : (s : List ℕ) (m k : ℕ) → slice_index s 0 ≡ 92 → slice_index s 1 ≡ 120
+    → m ≤ run is_ascii_hexdigit (drop 2 s) → k < m + 2 → Inner (slice_index s k)
 hex_digits s m zero b x some lt = numeral _ 92 b (omega arith) (omega arith)
 hex_digits s m (suc zero) b x some lt = numeral _ 120 x (omega arith) (omega arith)
 hex_digits s m (suc (suc j)) b x some lt =
-    behind_inner s 2 j (suc (suc j)) (omega arith) (hex_inner _ (run_at is_ascii_hexdigit (drop 2 s) _ j refl (omega arith)))
+    behind_inner s 2 j (suc (suc j)) (omega arith)
+    (hex_inner _ (run_at is_ascii_hexdigit (drop 2 s) _ j refl (omega arith)))
 
 letter_inner : (c : ℕ) → is_escape_letter c ≡ true → Inner c
-letter_inner c h = record { ascii = one_ascii (codes "ntvbrfa\\?'\"") c refl h; on_line = other is_escape_letter c refl h }
+letter_inner c h = record {
+  ascii =
+      one_ascii (codes "ntvbrfa\\?'\"") c refl h;
+  on_line = other is_escape_letter c refl h;
+}
 
-letter_pair : (s : List ℕ) (k : ℕ) → slice_index s 0 ≡ 92 → is_escape_letter (slice_index s 1) ≡ true → k < 2 → Inner (slice_index s k)
+letter_pair : (s : List ℕ) (k : ℕ) → slice_index s 0 ≡ 92 → is_escape_letter (slice_index s 1) ≡ true → k < 2
+    → Inner (slice_index s k)
 letter_pair s zero b e lt = numeral _ 92 b (omega arith) (omega arith)
 letter_pair s (suc zero) b e lt = letter_inner _ e
 letter_pair s (suc (suc k)) b e lt = absurd (omega arith)
@@ -149,15 +160,18 @@ character_inner quote s n v k (octal m b digits small e) lt =
 character_inner quote s n v k (hexadecimal m b x digits e) lt =
     hex_digits s m k b x (omega (arith, digits.whole)) (omega arith)
 
-characters_inner : (quote : ℕ) (s : List ℕ) (m k : ℕ) (vs : List ℕ) → AreCharacters quote s m vs → k < m → Inner (slice_index s k)
+characters_inner : (quote : ℕ) (s : List ℕ) (m k : ℕ) (vs : List ℕ) → AreCharacters quote s m vs → k < m
+    → Inner (slice_index s k)
 characters_inner quote s m k vs (none s1) lt = absurd (omega arith)
 characters_inner quote s m k vs (more s1 n v m1 k1 vs1 char nz rest e) lt =
     elim (cases_lt k n) [
       | inl in_it ↦ character_inner quote s n v k char in_it
-      | inr behind ↦ behind_inner s n (k - n) k (omega arith) (characters_inner quote (drop n s) m1 (k - n) vs1 rest (omega arith))
+      | inr behind ↦ behind_inner s n (k - n) k (omega arith)
+          (characters_inner quote (drop n s) m1 (k - n) vs1 rest (omega arith))
     ]
 
-char_literal_inner : (s : List ℕ) (inner v k : ℕ) → slice_index s 0 ≡ 39 → IsCharacter 39 (drop 1 s) inner v → slice_index s (inner + 1) ≡ 39 → k < inner + 2 → Inner (slice_index s k)
+char_literal_inner : (s : List ℕ) (inner v k : ℕ) → slice_index s 0 ≡ 39 → IsCharacter 39 (drop 1 s) inner v
+    → slice_index s (inner + 1) ≡ 39 → k < inner + 2 → Inner (slice_index s k)
 char_literal_inner s inner v zero opens char closes lt = numeral _ 39 opens (omega arith) (omega arith)
 char_literal_inner s inner v (suc j) opens char closes lt =
     elim (cases_lt j inner) [
@@ -165,7 +179,8 @@ char_literal_inner s inner v (suc j) opens char closes lt =
       | inr behind ↦ at_inner s (inner + 1) (suc j) (omega arith) (numeral _ 39 closes (omega arith) (omega arith))
     ]
 
-text_literal_inner : (s : List ℕ) (inner k : ℕ) (vs : List ℕ) → slice_index s 0 ≡ 34 → AreCharacters 34 (drop 1 s) inner vs → slice_index s (inner + 1) ≡ 34 → k < inner + 2 → Inner (slice_index s k)
+text_literal_inner : (s : List ℕ) (inner k : ℕ) (vs : List ℕ) → slice_index s 0 ≡ 34
+    → AreCharacters 34 (drop 1 s) inner vs → slice_index s (inner + 1) ≡ 34 → k < inner + 2 → Inner (slice_index s k)
 text_literal_inner s inner zero vs opens chars closes lt = numeral _ 34 opens (omega arith) (omega arith)
 text_literal_inner s inner (suc j) vs opens chars closes lt =
     elim (cases_lt j inner) [
@@ -188,27 +203,35 @@ on_one_line c = not (is_line_feed c)
 
 pragma_inner : (before s : List ℕ) (n k : ℕ) → IsPragmaLine before s n → k < n → Inner (slice_index s k)
 pragma_inner before s n k line lt =
-    let there : is_ascii (slice_index (line_of s) k) ≡ true = true_at is_ascii (line_of s) k (omega (arith, line.whole)) line.ascii in
+    let there : is_ascii (slice_index (line_of s) k) ≡ true =
+    true_at is_ascii (line_of s) k (omega (arith, line.whole)) line.ascii in
     let long : length (line_of s) ≡ run on_one_line s = length-prefix_len on_one_line s in
-    let same : slice_index (line_of s) k ≡ slice_index s k = get_or-take (run on_one_line s) s k 0 (omega (arith, line.whole, long)) in
+    let same : slice_index (line_of s) k ≡ slice_index s k =
+    get_or-take (run on_one_line s) s k 0 (omega (arith, line.whole, long)) in
     record {
       ascii = omega (arith, ascii_below _ there, same);
       on_line = other on_one_line _ refl (run_at on_one_line s n k (line.whole ∙ long) lt);
     }
 
-pub Begins-inner : (kind : Kind) (before s : List ℕ) (n k : ℕ) → Begins kind before s n → k < n → Inner (slice_index s k)
+pub Begins-inner : (kind : Kind) (before s : List ℕ) (n k : ℕ) → Begins kind before s n → k < n
+    → Inner (slice_index s k)
 Begins-inner Ident before s n k t lt = identifier_inner s n k t lt
 Begins-inner Keyword before s n k t lt = word_inner _ (run_at is_word s n k t.word.whole lt)
 Begins-inner Punct before s n k t lt = punctuation_inner s n k t lt
 Begins-inner Number before s n k t lt = point_inner _ (run_at is_word_or_point s n k t.whole lt)
-Begins-inner CharLit before s n k t lt = char_literal_inner s t.inner t.value k t.opens t.character t.closes (omega (arith, t.length))
-Begins-inner TextLit before s n k t lt = text_literal_inner s t.inner k t.octets t.opens t.characters t.closes (omega (arith, t.length))
+Begins-inner CharLit before s n k t lt =
+    char_literal_inner s t.inner t.value k t.opens t.character t.closes (omega (arith, t.length))
+Begins-inner TextLit before s n k t lt =
+    text_literal_inner s t.inner k t.octets t.opens t.characters t.closes (omega (arith, t.length))
 Begins-inner Pragma before s n k t lt = pragma_inner before s n k t lt
 
 -- a source may be cut behind a token
-pub cut_behind : (source : List ℕ) (at end : ℕ) (kind : Kind) (before : List ℕ) → IsUtf8 source → at < end → end ≤ length source → Begins kind before (drop at source) (end - at) → IsCharBoundary source end
+pub cut_behind : (source : List ℕ) (at end : ℕ) (kind : Kind) (before : List ℕ) → IsUtf8 source → at < end
+    → end ≤ length source → Begins kind before (drop at source) (end - at) → IsCharBoundary source end
 cut_behind source at end kind before utf8 some le t =
-    let last : Inner (slice_index source (end - 1)) = behind_inner source at (end - 1 - at) (end - 1) (omega arith) (Begins-inner kind before (drop at source) (end - at) (end - 1 - at) t (omega arith)) in
+    let last : Inner (slice_index source (end - 1)) =
+    behind_inner source at (end - 1 - at) (end - 1) (omega arith)
+    (Begins-inner kind before (drop at source) (end - at) (end - 1 - at) t (omega arith)) in
     let same : end - 1 + 1 ≡ end = omega arith in
     rw same at (IsCharBoundary-after_ascii source (end - 1) utf8 (omega arith) last.ascii)
 
@@ -220,7 +243,8 @@ no_feeds (c ∷ cs) h =
     grind (arith, nat_tests)
 
 -- a token lies on one line
-pub Begins-on_line : (kind : Kind) (before s : List ℕ) (n : ℕ) → n ≤ length s → Begins kind before s n → count_by is_line_feed (take n s) ≡ 0
+pub Begins-on_line : (kind : Kind) (before s : List ℕ) (n : ℕ) → n ≤ length s → Begins kind before s n
+    → count_by is_line_feed (take n s) ≡ 0
 Begins-on_line kind before s n within t =
     no_feeds (take n s) (λ k lt.
     let inside : k < n = omega (arith, length-take n s, lt) in

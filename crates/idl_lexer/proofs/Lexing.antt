@@ -15,14 +15,18 @@ use Rattle.idl_lexer.specs.Tokens.{HaveLines, LexedPart, StandsIn, end_of, line_
 use Rattle.idl_lexer.proofs.Inside.{Begins-on_line}
 
 -- a gap grows
-pub LexedPart-skip : (source : List ℕ) (from : ℕ) (ts : List Token) (j n k : ℕ) → LexedPart source from ts j → Skips (take j source) (drop j source) n → k ≡ j + n → LexedPart source from ts k
+pub LexedPart-skip : (source : List ℕ) (from : ℕ) (ts : List Token) (j n k : ℕ) → LexedPart source from ts j
+    → Skips (take j source) (drop j source) n → k ≡ j + n → LexedPart source from ts k
 LexedPart-skip source from [] j n k gap skip e = more j n k gap skip e
-LexedPart-skip source from (t ∷ ts) j n k (gap, stands, rest) skip e = (gap, stands, LexedPart-skip source (end_of t) ts j n k rest skip e)
+LexedPart-skip source from (t ∷ ts) j n k (gap, stands, rest) skip e =
+    (gap, stands, LexedPart-skip source (end_of t) ts j n k rest skip e)
 
 -- a token is added
-pub LexedPart-token : (source : List ℕ) (from : ℕ) (ts : List Token) (t : Token) → LexedPart source from ts t.start → StandsIn source t → LexedPart source from (ts ++ t ∷ []) (end_of t)
+pub LexedPart-token : (source : List ℕ) (from : ℕ) (ts : List Token) (t : Token) → LexedPart source from ts t.start
+    → StandsIn source t → LexedPart source from (ts ++ t ∷ []) (end_of t)
 LexedPart-token source from [] t gap stands = (gap, stands, none)
-LexedPart-token source from (u ∷ us) t (gap, first, rest) stands = (gap, first, LexedPart-token source (end_of u) us t rest stands)
+LexedPart-token source from (u ∷ us) t (gap, first, rest) stands =
+    (gap, first, LexedPart-token source (end_of u) us t rest stands)
 
 -- what a step has read, up to some place and its line
 pub record Reads (source : List ℕ) (tokens : List Token) (at line : ℕ) : Type 0 where
@@ -32,9 +36,12 @@ pub record Reads (source : List ℕ) (tokens : List Token) (at line : ℕ) : Typ
   pub counted : line ≡ line_at source at
 
 -- the octets behind a place add their line feeds
-line_at-add : (source : List ℕ) (at n : ℕ) → line_at source (at + n) ≡ line_at source at + count_by is_line_feed (take n (drop at source))
+line_at-add : (source : List ℕ) (at n : ℕ) → line_at source (at + n)
+    ≡ line_at source at + count_by is_line_feed (take n (drop at source))
 line_at-add source at n =
-    let split : count_by is_line_feed (take (at + n) source) ≡ count_by is_line_feed (take at source ++ take n (drop at source)) = ap (count_by is_line_feed) (take-add at n source) in
+    let split : count_by is_line_feed (take (at + n) source)
+    ≡ count_by is_line_feed (take at source ++ take n (drop at source)) =
+    ap (count_by is_line_feed) (take-add at n source) in
     omega (arith, split, sum_by-append (λ c. cond (is_line_feed c) 1 0) (take at source) (take n (drop at source)))
 
 pub line-le : (source : List ℕ) (tokens : List Token) (at line : ℕ) → Reads source tokens at line → line ≤ at + 1
@@ -52,15 +59,18 @@ Reads-token source tokens t at end line r starts ends counts rises within text f
       rises = omega arith;
       within = omega arith;
       text = subst (λ (e : ℕ). t.text.now ≡ slice_range source t.start e) (sym ends) (rw starts text);
-      form = subst (λ (e : ℕ). Begins t.kind (take t.start source) (drop t.start source) (e - t.start)) (sym ends) (rw starts form);
+      form = subst (λ (e : ℕ). Begins t.kind (take t.start source) (drop t.start source) (e - t.start)) (sym ends)
+          (rw starts form);
     } in
     let here : LexedPart source 0 tokens t.start = rw starts r.lexed in
     let flat : count_by is_line_feed (take (end - at) (drop at source)) ≡ 0 =
     Begins-on_line t.kind (take at source) (drop at source) (end - at) (omega (arith, length-drop at source)) form in
-    let along : line_at source (at + (end - at)) ≡ line_at source at + 0 = line_at-add source at (end - at) ∙ ap (λ k. line_at source at + k) flat in
+    let along : line_at source (at + (end - at)) ≡ line_at source at + 0 =
+    line_at-add source at (end - at) ∙ ap (λ k. line_at source at + k) flat in
     let there : line_at source (at + (end - at)) ≡ line_at source end = ap (line_at source) (omega arith) in
     let its : t.line ≡ line_at source t.start = rw starts (counts ∙ r.counted) in record {
-      lexed = subst (λ (e : ℕ). LexedPart source 0 (tokens ++ t ∷ []) e) ends (LexedPart-token source 0 tokens t here stands);
+      lexed = subst (λ (e : ℕ). LexedPart source 0 (tokens ++ t ∷ []) e) ends
+          (LexedPart-token source 0 tokens t here stands);
       within = within;
       lines = All-append (λ (u : Token). u.line ≡ line_at source u.start) tokens (t ∷ []) r.lines (only t its);
       counted = omega (arith, r.counted, along, there);
@@ -73,7 +83,8 @@ Reads-token source tokens t at end line r starts ends counts rises within text f
 pub Reads-skip :
     (source : List ℕ) (tokens : List Token) (at n line feeds : ℕ) (front : List ℕ)
     → Reads source tokens at line → Skips (take at source) (drop at source) n → at + n ≤ length source
-    → front ≡ take n (drop at source) → feeds ≡ count_by is_line_feed front → Reads source tokens (at + n) (line + feeds)
+    → front ≡ take n (drop at source) → feeds ≡ count_by is_line_feed front
+    → Reads source tokens (at + n) (line + feeds)
 Reads-skip source tokens at n line feeds front r skips within cut feeds_are = record {
   lexed = LexedPart-skip source 0 tokens at n (at + n) r.lexed skips refl;
   within = within;

@@ -25,7 +25,8 @@ data Sort : Type 0 where
 
 -- of which sort the fault of a place is
 abbrev sort : ℕ → Sort
-sort a = cond (a == 35) hash (cond (a == 47) slash (cond (a == 39) quote (cond (a == 34) quotes (cond (is_ascii_digit a) digit other))))
+sort a = cond (a == 35) hash
+    (cond (a == 47) slash (cond (a == 39) quote (cond (a == 34) quotes (cond (is_ascii_digit a) digit other))))
 
 abbrev OfSort : Sort → List ℕ → List ℕ → ℕ → LexFault → Type 0
 OfSort hash before s line fault = IsDirectiveFault before s line fault
@@ -43,28 +44,36 @@ low_digit a h = grind (arith, nat_tests)
 
 sort_of : (a : ℕ) (b : Bool) → a ≢ 35 → a ≢ 47 → a ≢ 39 → a ≢ 34 → is_ascii_digit a ≡ b → sort a ≡ cond b digit other
 sort_of a b h1 h2 h3 h4 e =
-    ap (λ x. cond x hash (cond (a == 47) slash (cond (a == 39) quote (cond (a == 34) quotes (cond (is_ascii_digit a) digit other))))) (unlike 35 a h1)
-    ∙ ap (λ x. cond x slash (cond (a == 39) quote (cond (a == 34) quotes (cond (is_ascii_digit a) digit other)))) (unlike 47 a h2)
+    ap (λ x. cond x hash (cond (a == 47) slash
+    (cond (a == 39) quote (cond (a == 34) quotes (cond (is_ascii_digit a) digit other))))) (unlike 35 a h1)
+    ∙ ap (λ x. cond x slash (cond (a == 39) quote (cond (a == 34) quotes (cond (is_ascii_digit a) digit other))))
+    (unlike 47 a h2)
     ∙ ap (λ x. cond x quote (cond (a == 34) quotes (cond (is_ascii_digit a) digit other))) (unlike 39 a h3)
     ∙ ap (λ x. cond x quotes (cond (is_ascii_digit a) digit other)) (unlike 34 a h4)
     ∙ ap (λ x. cond x digit other) e
 
-by_sort : (k : Sort) (before s : List ℕ) (line : ℕ) (fault : LexFault) → sort (slice_index s 0) ≡ k → OfSort k before s line fault → OfSort (sort (slice_index s 0)) before s line fault
+by_sort : (k : Sort) (before s : List ℕ) (line : ℕ) (fault : LexFault) → sort (slice_index s 0) ≡ k
+    → OfSort k before s line fault → OfSort (sort (slice_index s 0)) before s line fault
 by_sort k before s line fault e is = let P : Sort → Type 0 = λ j. OfSort j before s line fault in subst P (sym e) is
 
-sorted : (before s : List ℕ) (line : ℕ) (fault : LexFault) → IsFaultAt before s line fault → OfSort (sort (slice_index s 0)) before s line fault
+sorted : (before s : List ℕ) (line : ℕ) (fault : LexFault) → IsFaultAt before s line fault
+    → OfSort (sort (slice_index s 0)) before s line fault
 sorted before s line fault (of_directive e is) = by_sort hash before s line fault (ap sort e) is
 sorted before s line fault (of_comment e is) = by_sort slash before s line fault (ap sort e) is
 sorted before s line fault (of_char e is) = by_sort quote before s line fault (ap sort e) is
 sorted before s line fault (of_text e is) = by_sort quotes before s line fault (ap sort e) is
 sorted before s line fault (of_number e is) =
     let low = low_digit (slice_index s 0) e in
-    by_sort digit before s line fault (sort_of (slice_index s 0) true (λ f. omega arith) (λ f. omega arith) (λ f. omega arith) (λ f. omega arith) e) is
-sorted before s line fault (of_word h1 h2 h3 h4 e is) = by_sort other before s line fault (sort_of (slice_index s 0) false h1 h2 h3 h4 e) is
+    by_sort digit before s line fault
+    (sort_of (slice_index s 0) true (λ f. omega arith) (λ f. omega arith) (λ f. omega arith) (λ f. omega arith) e)
+    is
+sorted before s line fault (of_word h1 h2 h3 h4 e is) =
+    by_sort other before s line fault (sort_of (slice_index s 0) false h1 h2 h3 h4 e) is
 
 -- ---- of one sort there is one fault
 
-directive_one : (before s : List ℕ) (line : ℕ) (f g : LexFault) → IsDirectiveFault before s line f → IsDirectiveFault before s line g → f ≡ g
+directive_one : (before s : List ℕ) (line : ℕ) (f g : LexFault) → IsDirectiveFault before s line f
+    → IsDirectiveFault before s line g → f ≡ g
 directive_one before s line f g (inl a) (inl b) = a.2 ∙ sym b.2
 directive_one before s line f g (inl a) (inr b) = absurd (b.0 a.0 a.1)
 directive_one before s line f g (inr a) (inl b) = absurd (a.0 b.0 b.1)
@@ -78,7 +87,8 @@ word_one s line f g (inr a) (inr b) = a.1 ∙ sym b.1
 
 char_one : (s : List ℕ) (line : ℕ) (f g : LexFault) → IsCharFault s line f → IsCharFault s line g → f ≡ g
 char_one s line f g (open_char n v char closes e) (open_char m w char2 closes2 e2) =
-    e ∙ ap (λ k. if_ascii (drop (k + 1) s) (OpenLiteral line) line) (same_len 39 39 (drop 1 s) n m v w char char2) ∙ sym e2
+    e ∙ ap (λ k. if_ascii (drop (k + 1) s) (OpenLiteral line) line) (same_len 39 39 (drop 1 s) n m v w char char2)
+    ∙ sym e2
 char_one s line f g (open_char n v char closes e) (no_char never e2) = absurd (never n v char)
 char_one s line f g (no_char never e) (open_char n v char closes e2) = absurd (never n v char)
 char_one s line f g (no_char never e) (no_char never2 e2) = e ∙ sym e2
@@ -91,19 +101,28 @@ next_stops : (s : List ℕ) (n m k : ℕ) → k ≡ n + m → Stops (drop k s) �
 next_stops s n m k e stops =
     let place : drop m (drop n s) ≡ drop k s = drop-drop m n s ∙ ap (λ j. drop j s) (omega arith) in rw place stops
 
-one_end : (s : List ℕ) (k j : ℕ) (vs ws : List ℕ) → AreCharacters 34 s k vs → Stops (drop k s) → AreCharacters 34 s j ws → Stops (drop j s) → k ≡ j
+one_end : (s : List ℕ) (k j : ℕ) (vs ws : List ℕ) → AreCharacters 34 s k vs → Stops (drop k s) → AreCharacters 34 s j ws
+    → Stops (drop j s) → k ≡ j
 one_end s k j vs ws (none s1) stops (none s2) stops2 = refl
 one_end s k j vs ws (none s1) stops (more s2 n v m j2 vs2 char nz rest g) stops2 = absurd (stops n v char nz)
 one_end s k j vs ws (more s2 n v m k2 vs2 char nz rest g) stops (none s1) stops2 = absurd (stops2 n v char nz)
 one_end s k j vs ws (more s1 n v m k1 vs1 char nz rest g) stops (more s2 n2 v2 m2 j2 vs2 char2 nz2 rest2 g2) stops2 =
     let same : n ≡ n2 = same_len 34 34 s n n2 v v2 char char2 in
     let there : AreCharacters 34 (drop n s) m2 vs2 = rw same rest2 in
-    omega (arith, g, g2, one_end (drop n s) m m2 vs1 vs2 rest (next_stops s n m k g stops) there (next_stops s n m2 j (omega arith) stops2))
+    omega (
+      arith,
+      g,
+      g2,
+      one_end (drop n s) m m2 vs1 vs2 rest (next_stops s n m k g stops) there
+          (next_stops s n m2 j (omega arith) stops2),
+    )
 
 -- the same, behind the opening quote
-text_end : (s : List ℕ) (k j : ℕ) (vs ws : List ℕ) → AreCharacters 34 (drop 1 s) k vs → Stops (drop (k + 1) s) → AreCharacters 34 (drop 1 s) j ws → Stops (drop (j + 1) s) → k ≡ j
+text_end : (s : List ℕ) (k j : ℕ) (vs ws : List ℕ) → AreCharacters 34 (drop 1 s) k vs → Stops (drop (k + 1) s)
+    → AreCharacters 34 (drop 1 s) j ws → Stops (drop (j + 1) s) → k ≡ j
 text_end s k j vs ws chars stops chars2 stops2 =
-    one_end (drop 1 s) k j vs ws chars (next_stops s 1 k (k + 1) (omega arith) stops) chars2 (next_stops s 1 j (j + 1) (omega arith) stops2)
+    one_end (drop 1 s) k j vs ws chars (next_stops s 1 k (k + 1) (omega arith) stops) chars2
+    (next_stops s 1 j (j + 1) (omega arith) stops2)
 
 zero_stops : (s : List ℕ) (n : ℕ) → IsCharacter 34 s n 0 → Stops s
 zero_stops s n zeros m v char nz = nz (same_value 34 34 s m n v 0 char zeros)
@@ -114,16 +133,20 @@ none_stops s never n v char nz = never n v char
 text_one : (s : List ℕ) (line : ℕ) (f g : LexFault) → IsTextFault s line f → IsTextFault s line g → f ≡ g
 text_one s line f g (zero_char k n vs chars zeros e) (zero_char j m ws chars2 zeros2 e2) = e ∙ sym e2
 text_one s line f g (zero_char k n vs chars zeros e) (no_more j ws chars2 other2 never e2) =
-    let same : j ≡ k = sym (text_end s k j vs ws chars (zero_stops (drop (k + 1) s) n zeros) chars2 (none_stops (drop (j + 1) s) never)) in
+    let same : j ≡ k = sym (text_end s k j vs ws chars (zero_stops (drop (k + 1) s) n zeros) chars2
+    (none_stops (drop (j + 1) s) never)) in
     absurd (never n 0 (rw same zeros))
 text_one s line f g (no_more j ws chars2 other2 never e) (zero_char k n vs chars zeros e2) =
-    let same : j ≡ k = sym (text_end s k j vs ws chars (zero_stops (drop (k + 1) s) n zeros) chars2 (none_stops (drop (j + 1) s) never)) in
+    let same : j ≡ k = sym (text_end s k j vs ws chars (zero_stops (drop (k + 1) s) n zeros) chars2
+    (none_stops (drop (j + 1) s) never)) in
     absurd (never n 0 (rw same zeros))
 text_one s line f g (no_more k vs chars other1 never e) (no_more j ws chars2 other2 never2 e2) =
-    let same : k ≡ j = text_end s k j vs ws chars (none_stops (drop (k + 1) s) never) chars2 (none_stops (drop (j + 1) s) never2) in
+    let same : k ≡ j = text_end s k j vs ws chars (none_stops (drop (k + 1) s) never) chars2
+    (none_stops (drop (j + 1) s) never2) in
     e ∙ ap (λ i. character_fault 34 (drop (i + 1) s) line) same ∙ sym e2
 
-one : (k : Sort) (before s : List ℕ) (line : ℕ) (f g : LexFault) → OfSort k before s line f → OfSort k before s line g → f ≡ g
+one : (k : Sort) (before s : List ℕ) (line : ℕ) (f g : LexFault) → OfSort k before s line f → OfSort k before s line g
+    → f ≡ g
 one hash before s line f g a b = directive_one before s line f g a b
 one slash before s line f g a b = a ∙ sym b
 one quote before s line f g a b = char_one s line f g a b
@@ -135,7 +158,8 @@ one other before s line f g a b = word_one s line f g a b
 
 not_before : (source : List ℕ) (f g : LexFault) (a : IsFault source f) (b : IsFault source g) → a.place < b.place → ⊥
 not_before source f g a b less =
-    stuck source a.place b.place 0 a.tokens b.tokens (path source a.place 0 a.tokens a.read) (path source b.place 0 b.tokens b.read) less a.none
+    stuck source a.place b.place 0 a.tokens b.tokens (path source a.place 0 a.tokens a.read)
+    (path source b.place 0 b.tokens b.read) less a.none
 
 same_place : (source : List ℕ) (f g : LexFault) (a : IsFault source f) (b : IsFault source g) → a.place ≡ b.place
 same_place source f g a b = elim (cases_lt a.place b.place) [
@@ -152,8 +176,12 @@ one_fault source f g a b =
     let there : P a.place = subst P (sym (same_place source f g a b)) b.told in
     let s = drop a.place source in
     one (sort (slice_index s 0)) (take a.place source) s (line_at source a.place) f g
-    (sorted (take a.place source) s (line_at source a.place) f a.told) (sorted (take a.place source) s (line_at source a.place) g there)
+    (sorted (take a.place source) s (line_at source a.place) f a.told)
+    (sorted (take a.place source) s (line_at source a.place) g there)
 
 -- and then it has no tokens
-pub fault_or_tokens : (source : List ℕ) (tokens : List Token) (fault : LexFault) → Lexed source tokens → IsFault source fault → ⊥
-fault_or_tokens source tokens fault lexed is = none_lexed source (take is.place source) (drop is.place source) is.place is.tokens tokens refl refl is.within is.none is.read lexed
+pub fault_or_tokens : (source : List ℕ) (tokens : List Token) (fault : LexFault) → Lexed source tokens
+    → IsFault source fault → ⊥
+fault_or_tokens source tokens fault lexed is =
+    none_lexed source (take is.place source) (drop is.place source) is.place is.tokens tokens refl refl is.within
+    is.none is.read lexed

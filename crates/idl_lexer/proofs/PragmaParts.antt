@@ -17,7 +17,8 @@ use Rattle.idl_lexer.proofs.Inside.{and_true}
 
 line_whole : (text : List ℕ) → IsPragmaLine [] text (length text) → line_of text ≡ text
 line_whole text p =
-    let long : length (line_of text) ≡ run (λ c. not (is_line_feed c)) text = length-prefix_len (λ c. not (is_line_feed c)) text in
+    let long : length (line_of text) ≡ run (λ c. not (is_line_feed c)) text =
+    length-prefix_len (λ c. not (is_line_feed c)) text in
     take_all (run (λ c. not (is_line_feed c)) text) text (omega (arith, p.whole, long))
 
 kept : (text : List ℕ) → IsPragmaLine [] text (length text) → IsKept text
@@ -40,23 +41,29 @@ past_ascii p s h = IsAscii-drop s (run p s) h
 
 pub rest_ascii : (text : List ℕ) → HasForm Pragma text → IsAscii (pragma_rest text)
 rest_ascii text form =
-    past_ascii _ _ (past_ascii _ _ (past_ascii _ _ (past_ascii _ _ (past_ascii _ _ (IsAscii-drop text 1 (pragma_ascii text form))))))
+    past_ascii _ _ (past_ascii _ _
+    (past_ascii _ _ (past_ascii _ _ (past_ascii _ _ (IsAscii-drop text 1 (pragma_ascii text form))))))
 
 id_end : (text : List ℕ) → IsKept text → pragma_word text ≡ codes "ID" → IsIdEnd (pragma_rest text)
 id_end text (prefix p w e) is = let wrong : codes "prefix" ≡ codes "ID" = sym w ∙ is in cc
 id_end text (id p w e) is = e
 id_end text (version p w e) is = let wrong : codes "version" ≡ codes "ID" = sym w ∙ is in cc
 
-version_end : (text : List ℕ) → IsKept text → ¬ (pragma_word text ≡ codes "prefix") → ¬ (pragma_word text ≡ codes "ID") → (pragma_word text ≡ codes "version") × IsVersionEnd (pragma_rest text)
+version_end : (text : List ℕ) → IsKept text → ¬ (pragma_word text ≡ codes "prefix") → ¬ (pragma_word text ≡ codes "ID")
+    → (pragma_word text ≡ codes "version") × IsVersionEnd (pragma_rest text)
 version_end text (prefix p w e) a b = absurd (a w)
 version_end text (id p w e) a b = absurd (b w)
 version_end text (version p w e) a b = (w, e)
 
-pub id_scoped : (text : List ℕ) → HasForm Pragma text → pragma_word text ≡ codes "ID" → ∥ IsScopedName (before_quote (pragma_rest text)) [] ∥₁
+pub id_scoped : (text : List ℕ) → HasForm Pragma text → pragma_word text ≡ codes "ID"
+    → ∥ IsScopedName (before_quote (pragma_rest text)) [] ∥₁
 id_scoped text form is = ∥∥₁_map form (λ p. (id_end text (kept text p) is).name)
 
-pub version_word : (text : List ℕ) → HasForm Pragma text → ¬ (pragma_word text ≡ codes "prefix") → ¬ (pragma_word text ≡ codes "ID") → pragma_word text ≡ codes "version"
+pub version_word : (text : List ℕ) → HasForm Pragma text → ¬ (pragma_word text ≡ codes "prefix")
+    → ¬ (pragma_word text ≡ codes "ID") → pragma_word text ≡ codes "version"
 version_word text form a b = ∥∥₁_elim form (hlevel props) (λ p. (version_end text (kept text p) a b).0)
 
-pub version_scoped : (text : List ℕ) → HasForm Pragma text → ¬ (pragma_word text ≡ codes "prefix") → ¬ (pragma_word text ≡ codes "ID") → ∥ IsScopedName (take (version_place (pragma_rest text)) (pragma_rest text)) [] ∥₁
+pub version_scoped : (text : List ℕ) → HasForm Pragma text → ¬ (pragma_word text ≡ codes "prefix")
+    → ¬ (pragma_word text ≡ codes "ID")
+    → ∥ IsScopedName (take (version_place (pragma_rest text)) (pragma_rest text)) [] ∥₁
 version_scoped text form a b = ∥∥₁_map form (λ p. (version_end text (kept text p) a b).1.name)

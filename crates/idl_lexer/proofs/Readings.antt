@@ -30,14 +30,16 @@ octets_none : (fuel : ℕ) (s : List ℕ) → slice_index s 0 ≡ 34 → octets_
 octets_none zero s quote = refl
 octets_none (suc fuel) s quote = rw quote refl
 
-octets_more : (fuel : ℕ) (s : List ℕ) (n v : ℕ) → IsCharacter 34 s n v → octets_before_quote (suc fuel) s ≡ v ∷ octets_before_quote fuel (drop n s)
+octets_more : (fuel : ℕ) (s : List ℕ) (n v : ℕ) → IsCharacter 34 s n v
+    → octets_before_quote (suc fuel) s ≡ v ∷ octets_before_quote fuel (drop n s)
 octets_more fuel s n v char =
     let read = IsCharacter-reading 34 s n v char in
     let here : (slice_index s 0 == 34) ≡ false = no_quote (slice_index s 0) (λ e. no_character s n v e char) in
     rw here (ap (λ w. w ∷ octets_before_quote fuel (drop (reading s).len s)) (sym read.1)
     ∙ ap (λ k. v ∷ octets_before_quote fuel (drop k s)) (sym read.0))
 
-octets_of : (fuel : ℕ) (s : List ℕ) (k : ℕ) (vs : List ℕ) → length vs ≤ fuel → AreCharacters 34 s k vs → slice_index s k ≡ 34 → octets_before_quote fuel s ≡ vs
+octets_of : (fuel : ℕ) (s : List ℕ) (k : ℕ) (vs : List ℕ) → length vs ≤ fuel → AreCharacters 34 s k vs
+    → slice_index s k ≡ 34 → octets_before_quote fuel s ≡ vs
 octets_of fuel s k vs le (none s1) closes = octets_none fuel s closes
 octets_of zero s k vs le (more s1 n v m k1 vs1 char nz rest e) closes = absurd (omega arith)
 octets_of (suc fuel) s k vs le (more s1 n v m k1 vs1 char nz rest e) closes =
@@ -46,6 +48,7 @@ octets_of (suc fuel) s k vs le (more s1 n v m k1 vs1 char nz rest e) closes =
 
 pub IsTextLiteral-octets : (text : List ℕ) (t : IsTextLiteral text (length text)) → text_octets text ≡ t.octets
 IsTextLiteral-octets text t =
-    let behind : slice_index (drop 1 text) t.inner ≡ 34 = get_or_after_one text t.inner 0 ∙ ap (slice_index text) (omega arith) ∙ t.closes in
+    let behind : slice_index (drop 1 text) t.inner ≡ 34 = get_or_after_one text t.inner 0
+    ∙ ap (slice_index text) (omega arith) ∙ t.closes in
     let short = no_more_octets (drop 1 text) t.inner t.octets t.characters in
     octets_of (length text) (drop 1 text) t.inner t.octets (omega (arith, short, t.length)) t.characters behind

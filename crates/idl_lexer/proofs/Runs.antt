@@ -29,13 +29,17 @@ failed true h = absurd (h refl)
 failed false h = refl
 
 -- the first octet that passes, or the end, is where the run of others ends
-pub run-test : (test : ℕ → Bool) (s : List ℕ) (r : Option ℕ) → IsFirstByte test s r → unwrap_or r (length s) ≡ prefix_len (λ d. not (test d)) s
+pub run-test : (test : ℕ → Bool) (s : List ℕ) (r : Option ℕ) → IsFirstByte test s r
+    → unwrap_or r (length s) ≡ prefix_len (λ d. not (test d)) s
 run-test test s None h =
-    sym (prefix_len_is (λ d. not (test d)) s (length s) 0 (omega arith) (λ k below. failed _ (h k (omega arith) below)) (λ beyond. absurd (omega arith)))
+    sym (prefix_len_is (λ d. not (test d)) s (length s) 0 (omega arith) (λ k below. failed _ (h k (omega arith) below))
+    (λ beyond. absurd (omega arith)))
 run-test test s (Some n) h =
-    sym (prefix_len_is (λ d. not (test d)) s n 0 (omega (arith, h.0.high)) (λ k below. failed _ (h.0.before k (omega arith) below)) (λ _. ap not h.1))
+    sym (prefix_len_is (λ d. not (test d)) s n 0 (omega (arith, h.0.high))
+    (λ k below. failed _ (h.0.before k (omega arith) below)) (λ _. ap not h.1))
 
-pub run-first : (c : ℕ) (s : List ℕ) (r : Option ℕ) → IsFirstByte (is_byte c) s r → unwrap_or r (length s) ≡ prefix_len (λ d. not (d == c)) s
+pub run-first : (c : ℕ) (s : List ℕ) (r : Option ℕ) → IsFirstByte (is_byte c) s r
+    → unwrap_or r (length s) ≡ prefix_len (λ d. not (d == c)) s
 run-first c s r h = run-test (is_byte c) s r h
 
 -- what holds of a value, where there is one, may be put to use

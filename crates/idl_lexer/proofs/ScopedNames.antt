@@ -26,7 +26,8 @@ front_of s name = front_to s [] name (done [] refl)
 
 pub name_one : (s a b : List ℕ) → IsName s a → IsName s b → a ≡ b
 name_one s a b one other =
-    one.rest ∙ ap (λ n. past is_blank (drop n s)) (identifier_one s one.long other.long one.name other.name) ∙ sym other.rest
+    one.rest ∙ ap (λ n. past is_blank (drop n s)) (identifier_one s one.long other.long one.name other.name)
+    ∙ sym other.rest
 
 pub scope_one : (s a b : List ℕ) → IsScope s a → IsScope s b → a ≡ b
 scope_one s a b one other = one.rest ∙ sym other.rest
@@ -36,7 +37,8 @@ pub name_or_scope : (s a b : List ℕ) → IsName s a → IsScope s b → ⊥
 name_or_scope s a b name scope = first name.name
   where
     first : {n : ℕ} → IsIdentifier s n → ⊥
-    first (inl bare_name) = let colon : is_ascii_alphabetic 58 ≡ true = ap is_ascii_alphabetic (sym scope.first) ∙ bare_name.word.first in cc
+    first (inl bare_name) = let colon : is_ascii_alphabetic 58 ≡ true = ap is_ascii_alphabetic (sym scope.first)
+        ∙ bare_name.word.first in cc
     first (inr escaped) = omega (arith, scope.first, escaped.underscore)
 
 no_scope : (a : List ℕ) → IsScope [] a → ⊥
@@ -45,7 +47,8 @@ no_scope a scope = omega (arith, scope.first)
 -- behind a scope that is there, a tail goes on with a name
 pub tail_next : (s a : List ℕ) → IsScope s a → IsTail s → (b : List ℕ) × IsName a b × IsTail b
 tail_next s a scope (done s1 e) = absurd (no_scope a (rw e at scope))
-tail_next s a scope (next s1 a2 b other name tail) = let same : a2 ≡ a = scope_one s a2 a other scope in (b, rw same at name, tail)
+tail_next s a scope (next s1 a2 b other name tail) = let same : a2 ≡ a = scope_one s a2 a other scope in
+    (b, rw same at name, tail)
 
 -- without one it is at its end
 pub tail_end : (s : List ℕ) → ((a : List ℕ) → IsScope s a → ⊥) → IsTail s → s ≡ []

@@ -19,7 +19,8 @@ past_first p c cs h = rw (h, one_plus (run p cs)) refl
 front_of : (p : ℕ → Bool) (c : ℕ) (cs : List ℕ) → p c ≡ true → take (run p (c ∷ cs)) (c ∷ cs) ≡ c ∷ take (run p cs) cs
 front_of p c cs h = rw (h, one_plus (run p cs)) refl
 
-past_step : (p : ℕ → Bool) (c : ℕ) (cs : List ℕ) (b : Bool) → p c ≡ b → (b ≡ true → is_word c ≡ false) → words (past p cs) ≡ words cs → words (past p (c ∷ cs)) ≡ words (c ∷ cs)
+past_step : (p : ℕ → Bool) (c : ℕ) (cs : List ℕ) (b : Bool) → p c ≡ b → (b ≡ true → is_word c ≡ false)
+    → words (past p cs) ≡ words cs → words (past p (c ∷ cs)) ≡ words (c ∷ cs)
 past_step p c cs true h others rest = ap words (past_first p c cs h) ∙ rest ∙ rw (others refl) refl
 past_step p c cs false h others rest = rw h refl
 
@@ -40,14 +41,17 @@ run_starts : (b : Bool) (n : ℕ) → 0 < cond b (1 + n) 0 → b ≡ true
 run_starts true n h = refl
 run_starts false n h = absurd (omega arith)
 
-word_step : (c : ℕ) (cs : List ℕ) (b : Bool) → is_word (slice_index cs 0) ≡ b → is_word c ≡ true → (0 < run is_word cs → words cs ≡ take (run is_word cs) cs ∷ words (past is_word cs)) → words (c ∷ cs) ≡ take (run is_word (c ∷ cs)) (c ∷ cs) ∷ words (past is_word (c ∷ cs))
+word_step : (c : ℕ) (cs : List ℕ) (b : Bool) → is_word (slice_index cs 0) ≡ b → is_word c ≡ true
+    → (0 < run is_word cs → words cs ≡ take (run is_word cs) cs ∷ words (past is_word cs))
+    → words (c ∷ cs) ≡ take (run is_word (c ∷ cs)) (c ∷ cs) ∷ words (past is_word (c ∷ cs))
 word_step c cs true next here rest =
     rw (here, next) (ap (joined c) (rest (run_some cs next)))
     ∙ ap (λ w. w ∷ words (past is_word cs)) (sym (front_of is_word c cs here))
     ∙ ap (λ t. take (run is_word (c ∷ cs)) (c ∷ cs) ∷ words t) (sym (past_first is_word c cs here))
 word_step c cs false next here rest =
     let none = run_none is_word cs next in
-    let alone : take (run is_word (c ∷ cs)) (c ∷ cs) ≡ c ∷ [] = front_of is_word c cs here ∙ ap (λ n. c ∷ take n cs) none in
+    let alone : take (run is_word (c ∷ cs)) (c ∷ cs) ≡ c ∷ [] =
+    front_of is_word c cs here ∙ ap (λ n. c ∷ take n cs) none in
     let behind : past is_word (c ∷ cs) ≡ cs = past_first is_word c cs here ∙ ap (λ n. drop n cs) none in
     rw (here, next) refl
     ∙ ap (λ w. w ∷ words cs) (sym alone)
@@ -62,7 +66,8 @@ words-word (c ∷ cs) some =
 abbrev is_other : ℕ → Bool
 is_other c = not (is_word c)
 
-none_step : (c : ℕ) (cs : List ℕ) (b : Bool) → is_word c ≡ b → run is_word (past is_other (c ∷ cs)) ≡ 0 → (run is_word (past is_other cs) ≡ 0 → words cs ≡ []) → words (c ∷ cs) ≡ []
+none_step : (c : ℕ) (cs : List ℕ) (b : Bool) → is_word c ≡ b → run is_word (past is_other (c ∷ cs)) ≡ 0
+    → (run is_word (past is_other cs) ≡ 0 → words cs ≡ []) → words (c ∷ cs) ≡ []
 none_step c cs true here h rest =
     let there : past is_other (c ∷ cs) ≡ c ∷ cs = rw here refl in
     let some : run is_word (c ∷ cs) ≡ 1 + run is_word cs = rw here refl in
@@ -90,7 +95,8 @@ pub word-IsAscii : (s : List ℕ) → IsAscii (take (run is_word s) s)
 word-IsAscii [] i = omega arith
 word-IsAscii (c ∷ cs) i = ascii_step c cs (is_word c) refl (word-IsAscii cs) i
   where
-    ascii_step : (c : ℕ) (cs : List ℕ) (b : Bool) → is_word c ≡ b → IsAscii (take (run is_word cs) cs) → IsAscii (take (run is_word (c ∷ cs)) (c ∷ cs))
+    ascii_step : (c : ℕ) (cs : List ℕ) (b : Bool) → is_word c ≡ b → IsAscii (take (run is_word cs) cs)
+        → IsAscii (take (run is_word (c ∷ cs)) (c ∷ cs))
     ascii_step c cs true here rest zero = rw (front_of is_word c cs here) (word_ascii c here)
     ascii_step c cs true here rest (suc i) = rw (front_of is_word c cs here) (rest i)
     ascii_step c cs false here rest i = rw here (omega arith)
@@ -122,7 +128,8 @@ name_words s r name =
     let word = identifier_word s name.long name.name in
     words-word s word.1
     ∙ ap (λ n. take n s ∷ words (drop n s)) (sym word.0)
-    ∙ ap (λ ws. take name.long s ∷ ws) (sym (words-past is_blank blank_other (drop name.long s)) ∙ ap words (sym name.rest))
+    ∙ ap (λ ws. take name.long s ∷ ws) (sym (words-past is_blank blank_other (drop name.long s))
+    ∙ ap words (sym name.rest))
 
 colons : (s : List ℕ) → slice_index s 0 ≡ 58 → slice_index s 1 ≡ 58 → words s ≡ words (drop 2 s)
 colons [] h k = absurd (omega arith)
@@ -148,16 +155,25 @@ words-IsScopedName s name = name_first s [] name ∙ append-nil (identifiers_of 
 -- ---- a step over a text
 
 -- where nothing is cut off as a word, none is left
-pub words-end : (s from word rest : List ℕ) (n : ℕ) → from ≡ past (λ c. not (is_word c)) s → n ≡ run is_word from → word ≡ take n from → rest ≡ drop n from → length word ≡ 0 → (words s ≡ []) × (words rest ≡ [])
+pub words-end : (s from word rest : List ℕ) (n : ℕ) → from ≡ past (λ c. not (is_word c)) s → n ≡ run is_word from
+    → word ≡ take n from → rest ≡ drop n from → length word ≡ 0 → (words s ≡ []) × (words rest ≡ [])
 words-end s from word rest n skipped counted cut left none =
-    let zero_long : run is_word from ≡ 0 = sym (length-prefix_len is_word from) ∙ ap (λ k. length (take k from)) (sym counted) ∙ ap length (sym cut) ∙ none in
-    let all : words s ≡ [] = words-none s (ap (run is_word) (sym skipped) ∙ zero_long) in
-    (all, ap words (left ∙ ap (λ k. drop k from) (counted ∙ zero_long) ∙ skipped) ∙ words-past (λ c. not (is_word c)) not_word s ∙ all)
+    let zero_long : run is_word from ≡ 0 = sym (length-prefix_len is_word from)
+    ∙ ap (λ k. length (take k from)) (sym counted) ∙ ap length (sym cut) ∙ none in
+    let all : words s ≡ [] = words-none s (ap (run is_word) (sym skipped) ∙ zero_long) in (
+      all,
+      ap words (left ∙ ap (λ k. drop k from) (counted ∙ zero_long) ∙ skipped)
+          ∙ words-past (λ c. not (is_word c)) not_word s ∙ all,
+    )
 
 -- what is cut off is the first word
-pub words-step : (s from word rest : List ℕ) (n : ℕ) → from ≡ past (λ c. not (is_word c)) s → n ≡ run is_word from → word ≡ take n from → rest ≡ drop n from → 0 < length word → words s ≡ word ∷ words rest
+pub words-step : (s from word rest : List ℕ) (n : ℕ) → from ≡ past (λ c. not (is_word c)) s → n ≡ run is_word from
+    → word ≡ take n from → rest ≡ drop n from → 0 < length word → words s ≡ word ∷ words rest
 words-step s from word rest n skipped counted cut left some =
-    let long : length word ≡ run is_word from = ap length cut ∙ ap (λ k. length (take k from)) counted ∙ length-prefix_len is_word from in
-    let begins : words from ≡ take (run is_word from) from ∷ words (past is_word from) = words-word from (omega (arith, long)) in
+    let long : length word ≡ run is_word from = ap length cut ∙ ap (λ k. length (take k from)) counted
+    ∙ length-prefix_len is_word from in
+    let begins : words from ≡ take (run is_word from) from ∷ words (past is_word from) =
+    words-word from (omega (arith, long)) in
     sym (words-past (λ c. not (is_word c)) not_word s) ∙ ap words (sym skipped) ∙ begins
-    ∙ ap (λ k. take k from ∷ words (drop k from)) (sym counted) ∙ ap (λ w. w ∷ words (drop n from)) (sym cut) ∙ ap (λ r. word ∷ words r) (sym left)
+    ∙ ap (λ k. take k from ∷ words (drop k from)) (sym counted) ∙ ap (λ w. w ∷ words (drop n from)) (sym cut)
+    ∙ ap (λ r. word ∷ words r) (sym left)

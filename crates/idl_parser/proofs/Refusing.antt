@@ -14,7 +14,9 @@ use Rattle.idl_tree.proofs.DefinitionWays.{spec_found}
 
 pub refuses : (tokens : List Token) (left : List Seen) (stop : Stop) (fault : ParseFault) → left ≡ seen_from 0 tokens
     → (stop ≡ StopNoMemory → fault ≡ FaultNoMemory) → (stop ≡ StopNoMemory) ⊎ IsNoSpec 64 left
-    → (fault ≡ FaultNoMemory) ⊎ ((definitions : List Definition) → Spell (definitions_spelled definitions) tokens → levels_of definitions ≤ 64 → ⊥)
+    → (fault ≡ FaultNoMemory)
+    ⊎ ((definitions : List Definition) → Spell (definitions_spelled definitions) tokens → levels_of definitions ≤ 64
+    → ⊥)
 refuses tokens left stop fault same told (inl h) = inl (told h)
 refuses tokens left stop fault same told (inr none) =
     inr (λ definitions spelled few. subst (IsNoSpec 64) same none (spec_found 64 tokens definitions spelled few))

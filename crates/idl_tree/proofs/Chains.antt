@@ -21,13 +21,15 @@ row_of _ = (_, end_of-Operand)
 pub chain_yield : (first : Box Expr Global) (rest : Vec Operand Global)
     → expr_yield (Chain first rest) ≡ expr_yield first.value ++ flat_map operand_yield rest.items
 chain_yield first rest =
-    chain_walk expr_yield (λ n row. operands_yield row) (λ e others. expr_yield e ++ others) [] (λ x others. operand_yield x ++ others) (flat_map operand_yield)
+    chain_walk expr_yield (λ n row. operands_yield row) (λ e others. expr_yield e ++ others) []
+    (λ x others. operand_yield x ++ others) (flat_map operand_yield)
     (λ p e shape row. refl) refl (λ n x row. refl) refl (λ x xs. refl) first rest
 
 pub chain_levels : (first : Box Expr Global) (rest : Vec Operand Global)
     → expr_levels (Chain first rest) ≡ max (expr_levels first.value) (highest operand_levels rest.items)
 chain_levels first rest =
-    chain_walk expr_levels (λ n row. operands_levels row) (λ e most. max (expr_levels e) most) 0 (λ x most. max (operand_levels x) most) (highest operand_levels)
+    chain_walk expr_levels (λ n row. operands_levels row) (λ e most. max (expr_levels e) most) 0
+    (λ x most. max (operand_levels x) most) (highest operand_levels)
     (λ p e shape row. refl) refl (λ n x row. refl) refl (λ x xs. refl) first rest
 
 -- ---- levels of operators
@@ -73,22 +75,28 @@ operator_level false level Multiply h = (Decides-eqb 5 level).0 h
 operator_level false level Divide h = (Decides-eqb 5 level).0 h
 operator_level false level Remainder h = (Decides-eqb 5 level).0 h
 
-operands_level : (s : Bool) (level : ℕ) (n : _) (row : Row_of-Operand n) → AllByRecursion (IsOperandOf s level) (items-the_row-Operand n row) → are_of_level s level row ≡ true
+operands_level : (s : Bool) (level : ℕ) (n : _) (row : Row_of-Operand n)
+    → AllByRecursion (IsOperandOf s level) (items-the_row-Operand n row) → are_of_level s level row ≡ true
 operands_level s level n end_of-Operand h = refl
 operands_level s level n (more_of-Operand o e rest) h = both (both h.0.0 h.0.1) (operands_level s level _ rest h.1)
 
 -- the level of the first operator is that of all
-row_level : (s : Bool) (level : ℕ) (n : _) (row : Row_of-Operand n) → (items-the_row-Operand n row ≡ [] → ⊥) → AllByRecursion (IsOperandOf s level) (items-the_row-Operand n row) → first_level row ≡ level
+row_level : (s : Bool) (level : ℕ) (n : _) (row : Row_of-Operand n) → (items-the_row-Operand n row ≡ [] → ⊥)
+    → AllByRecursion (IsOperandOf s level) (items-the_row-Operand n row) → first_level row ≡ level
 row_level s level n end_of-Operand some h = absurd (some refl)
 row_level s level n (more_of-Operand o e rest) some h = operator_level s level o h.0.0
 
 -- a chain of operators of a level
-pub chain_level : (s : Bool) (level : ℕ) (first : Box Expr Global) (rest : Vec Operand Global) → level ≤ 5 → (rest.items ≡ [] → ⊥) → IsOfLevel s (suc level) first.value → AllByRecursion (IsOperandOf s level) rest.items
+pub chain_level : (s : Bool) (level : ℕ) (first : Box Expr Global) (rest : Vec Operand Global) → level ≤ 5
+    → (rest.items ≡ [] → ⊥) → IsOfLevel s (suc level) first.value → AllByRecursion (IsOperandOf s level) rest.items
     → IsOfLevel s level (Chain first rest)
 chain_level s level first rest le some tighter operands =
     let row = row_of (Chain first rest) in
     let same = items_hidden-the_row-Operand-0 rest in
-    let each : AllByRecursion (IsOperandOf s level) (items-the_row-Operand row.0 row.1) = subst (AllByRecursion (IsOperandOf s level)) (sym same) operands in
+    let each : AllByRecursion (IsOperandOf s level) (items-the_row-Operand row.0 row.1) =
+    subst (AllByRecursion (IsOperandOf s level)) (sym same) operands in
     let is : first_level row.1 ≡ level = row_level s level row.0 row.1 (λ none. some (sym same ∙ none)) each in
-    both (both (both (lt-ltb level (suc (first_level row.1)) (omega (arith, is))) (lt-ltb (first_level row.1) 6 (omega (arith, is, le))))
-    (subst (λ k. IsOfLevel s (suc k) first.value) (sym is) tighter)) (subst (λ k. are_of_level s k row.1 ≡ true) (sym is) (operands_level s level row.0 row.1 each))
+    both (both (both (lt-ltb level (suc (first_level row.1)) (omega (arith, is)))
+    (lt-ltb (first_level row.1) 6 (omega (arith, is, le))))
+    (subst (λ k. IsOfLevel s (suc k) first.value) (sym is) tighter))
+    (subst (λ k. are_of_level s k row.1 ≡ true) (sym is) (operands_level s level row.0 row.1 each))

@@ -20,8 +20,8 @@ use Rattle.idl_tree.specs.Yields.{operator_yield, text_yield, boolean_text, sign
 use Rattle.idl_tree.specs.Shapes.{Shape, Nothing, Kind, Both, operator_shape, leaf_shape, expr_shape, operands_shape, const_expr_shape, bound_shape}
 use Rattle.idl_tree.proofs.Fronts.{split, number_of}
 use Rattle.idl_tree.proofs.Same.{is_in, are_some_of, Among, Avoids, Any, Leads, Same, fixed, so, under, then, ended, next, never, contrary, turned, leads_none, leads_first, leads_to, piece_avoids, kept_among, fewer, leads_any, are_apart, leaves, leaves_of}
-use Rattle.idl_tree.proofs.Lists.{Row, same_in_order}
-use Rattle.idl_tree.proofs.Names.{same_name, name_begins}
+use Rattle.idl_tree.proofs.TreeLists.{Row, same_in_order}
+use Rattle.idl_tree.proofs.TreeNames.{same_name, name_begins}
 use Rattle.idl_tree.proofs.Operators.{ExprEnds, RowParts, row_parts, operator_number, operator_begins, same_operator, operands_end, tighter, tightest, itself, level_is}
 
 -- ---- operands
@@ -65,7 +65,8 @@ IsOne s a =
     (m : ℕ) (b : Expr) → is_chain b ≡ false → IsOfLevel s m b
     → Same (expr_yield a) (expr_yield b) (expr_shape a ≡ expr_shape b) (ExprEnds s m)
 
-other : (s : Bool) (m : ℕ) (a b : Expr) {P : Type 0} → is_chain a ≡ false → is_chain b ≡ false → are_apart (starts_of a) (starts_of b) ≡ true
+other : (s : Bool) (m : ℕ) (a b : Expr) {P : Type 0} → is_chain a ≡ false → is_chain b ≡ false
+    → are_apart (starts_of a) (starts_of b) ≡ true
     → Same (expr_yield a) (expr_yield b) P (ExprEnds s m)
 other s m a b h k e = never (starts_of a) (starts_of b) e (leads_any (alone_begins a h)) (leads_any (alone_begins b k))
 
@@ -118,7 +119,8 @@ goes Multiply = refl
 goes Divide = refl
 goes Remainder = refl
 
-goes_in_bounds : (o : Operator) → is_operator_of false (level_of o) o ≡ true → are_some_of (operator_number o ∷ []) goes_on_in_bounds ≡ true
+goes_in_bounds : (o : Operator) → is_operator_of false (level_of o) o ≡ true
+    → are_some_of (operator_number o ∷ []) goes_on_in_bounds ≡ true
 goes_in_bounds Or h = refl
 goes_in_bounds Xor h = refl
 goes_in_bounds And h = refl
@@ -136,10 +138,12 @@ expr_ended s n t a = record { names = fewer refl a; operators = λ o le is. fewe
 pub bound_ended : (n : ℕ) (t : List Seen) → Avoids goes_on_in_bounds t → ExprEnds false n t
 bound_ended n t a = record { names = fewer refl a; operators = λ o le is. fewer (goes_in_bounds o is) a }
 
-pub mark_ends : (text : List ℕ) (s : Bool) (n : ℕ) → is_in goes_on (number_of Punct text) ≡ false → {S : List Seen → Type 0} → Leads (mark text) S (ExprEnds s n)
+pub mark_ends : (text : List ℕ) (s : Bool) (n : ℕ) → is_in goes_on (number_of Punct text) ≡ false
+    → {S : List Seen → Type 0} → Leads (mark text) S (ExprEnds s n)
 mark_ends text s n h = leads_to (expr_ended s n) (piece_avoids Punct text goes_on h)
 
-pub bound_ends : (text : List ℕ) (n : ℕ) → is_in goes_on_in_bounds (number_of Punct text) ≡ false → {S : List Seen → Type 0} → Leads (mark text) S (ExprEnds false n)
+pub bound_ends : (text : List ℕ) (n : ℕ) → is_in goes_on_in_bounds (number_of Punct text) ≡ false
+    → {S : List Seen → Type 0} → Leads (mark text) S (ExprEnds false n)
 bound_ends text n h = leads_to (bound_ended n) (piece_avoids Punct text goes_on_in_bounds h)
 
 -- ---- operands in parentheses or with a sign, by what is the same inside
@@ -149,13 +153,16 @@ abbrev pub IsFirst : Bool → ℕ → Expr → Type 0
 IsFirst s m a =
     (b : Expr) → IsOfLevel s m b → Same (expr_yield a) (expr_yield b) (expr_shape a ≡ expr_shape b) (ExprEnds s m)
 
-parenthesized_one : (s : Bool) (l : Leaf) (p : Box (Unit {0}) Global) (inner : Expr) → IsFirst true 0 inner → IsOne s (Parenthesized' l p inner)
+parenthesized_one : (s : Bool) (l : Leaf) (p : Box (Unit {0}) Global) (inner : Expr) → IsFirst true 0 inner
+    → IsOne s (Parenthesized' l p inner)
 parenthesized_one s l p inner one m (Parenthesized' k q e) h level =
     so (λ e. let a = e.0 in let b = e.1 in cc)
-    (ended (mark (codes ")")) (next (leaves_of Punct (codes "(") (codes "(") l k) (one e level)) (mark_ends (codes ")") true 0 refl))
+    (ended (mark (codes ")")) (next (leaves_of Punct (codes "(") (codes "(") l k) (one e level))
+    (mark_ends (codes ")") true 0 refl))
 parenthesized_one s l p inner one m b h level = other s m (Parenthesized' l p inner) b refl h refl
 
-signed_one : (s : Bool) (l : Leaf) (sign : Sign) (p : Box (Unit {0}) Global) (inner : Expr) → IsFirst s 7 inner → IsOne s (Signed' l sign p inner)
+signed_one : (s : Bool) (l : Leaf) (sign : Sign) (p : Box (Unit {0}) Global) (inner : Expr) → IsFirst s 7 inner
+    → IsOne s (Signed' l sign p inner)
 signed_one s l sign p inner one m (Signed' k other_sign q e) h level =
     let parts = and_parts (nat_lt m 7) (is_of_level s 7 e) level in
     under (tightest s m)
@@ -175,7 +182,8 @@ chain_test s n first rest =
     nat_lt n (suc (first_level rest)) && nat_lt (first_level rest) 6
     && is_of_level s (suc (first_level rest)) first && are_of_level s (first_level rest) rest
 
-pub chain_parts : (s : Bool) (n : ℕ) (first : Expr) {c : _} (rest : Row_of-Operand c) → chain_test s n first rest ≡ true → ChainParts s n first rest
+pub chain_parts : (s : Bool) (n : ℕ) (first : Expr) {c : _} (rest : Row_of-Operand c) → chain_test s n first rest ≡ true
+    → ChainParts s n first rest
 chain_parts s n first rest h =
     let level = first_level rest in
     let most = nat_lt level 6 in
@@ -191,11 +199,14 @@ both {a = true} e f = f
 both {a = false} e f = absurd cc
 
 -- a chain is of each level up to its own
-chain_level : (s : Bool) (n m : ℕ) (first : Expr) {c : _} (rest : Row_of-Operand c) → ChainParts s n first rest → m ≤ first_level rest → chain_test s m first rest ≡ true
+chain_level : (s : Bool) (n m : ℕ) (first : Expr) {c : _} (rest : Row_of-Operand c) → ChainParts s n first rest
+    → m ≤ first_level rest → chain_test s m first rest ≡ true
 chain_level s n m first rest c le =
-    both (both (both (lt-ltb m (suc (first_level rest)) (omega arith)) (lt-ltb (first_level rest) 6 c.some)) c.front) c.others
+    both (both (both (lt-ltb m (suc (first_level rest)) (omega arith)) (lt-ltb (first_level rest) 6 c.some)) c.front)
+    c.others
 
-at_level : (s : Bool) (m n : ℕ) (first : Expr) {c : _} (rest : Row_of-Operand c) → ChainParts s m first rest → n ≤ first_level rest → ChainParts s n first rest
+at_level : (s : Bool) (m n : ℕ) (first : Expr) {c : _} (rest : Row_of-Operand c) → ChainParts s m first rest
+    → n ≤ first_level rest → ChainParts s n first rest
 at_level s m n first rest a le = record { within = le; some = a.some; front = a.front; others = a.others }
 
 -- the operator that tokens begin with
@@ -205,12 +216,14 @@ record OperatorAt (s : Bool) (k : ℕ) (t : List Seen) : Type 0 where
   is : is_operator_of s (level_of operator) operator ≡ true
   at : Among (operator_number operator ∷ []) t
 
-row_begins : (s : Bool) {c : _} (rest : Row_of-Operand c) → first_level rest < 6 → are_of_level s (first_level rest) rest ≡ true
+row_begins : (s : Bool) {c : _} (rest : Row_of-Operand c) → first_level rest < 6
+    → are_of_level s (first_level rest) rest ≡ true
     → Leads (operands_yield rest) Any (OperatorAt s (first_level rest))
 row_begins s end_of-Operand h e = absurd (omega arith)
 row_begins s (more_of-Operand o x rest) h e =
     let parts = row_parts s (level_of o) o x rest e in
-    leads_first _ (leads_first _ (leads_to (λ t a. record { operator = o; level = refl; is = parts.operator; at = a }) (operator_begins o)))
+    leads_first _ (leads_first _
+    (leads_to (λ t a. record { operator = o; level = refl; is = parts.operator; at = a }) (operator_begins o)))
 
 not_both : (s : Bool) (n k : ℕ) (t : List Seen) → n ≤ k → OperatorAt s k t → ExprEnds s n t → ⊥
 not_both s n k t le o ends =
@@ -219,8 +232,10 @@ not_both s n k t le o ends =
     cc
 
 -- an expression of the level can't be just the front of a chain
-pub shorter : (s : Bool) (n : ℕ) (first : Expr) {c : _} (rest : Row_of-Operand c) {x : List Piece} {P Q : Type 0} → ChainParts s n first rest
-    → Same x (expr_yield first) P (ExprEnds s (suc (first_level rest))) → Same x (expr_yield first ++ operands_yield rest) Q (ExprEnds s n)
+pub shorter : (s : Bool) (n : ℕ) (first : Expr) {c : _} (rest : Row_of-Operand c) {x : List Piece} {P Q : Type 0}
+    → ChainParts s n first rest
+    → Same x (expr_yield first) P (ExprEnds s (suc (first_level rest)))
+    → Same x (expr_yield first ++ operands_yield rest) Q (ExprEnds s n)
 shorter s n first rest c f = record {
   by = λ t r q h k u v.
       let level = first_level rest in
@@ -240,7 +255,8 @@ one_alone s a one n b h = one n b refl h
 
 -- an operand is of each level
 raised : (s : Bool) (n m : ℕ) (b : Expr) → m < 7 → is_chain b ≡ false → IsOfLevel s n b → IsOfLevel s m b
-raised s n m (Signed' l o p inner) le h level = let parts = and_parts (nat_lt n 7) (is_of_level s 7 inner) level in both (lt-ltb m 7 le) parts.1
+raised s n m (Signed' l o p inner) le h level = let parts = and_parts (nat_lt n 7) (is_of_level s 7 inner) level in
+    both (lt-ltb m 7 le) parts.1
 raised s n m (Chain' p first shape rest) le h level = absurd (cc)
 raised s n m (Parenthesized' l p inner) le h level = level
 raised s n m b le h level = refl
@@ -254,17 +270,26 @@ chain_yield first rest = expr_yield first ++ operands_yield rest
 
 abbrev pub IsRest : Bool → ℕ → {c : _} → Row_of-Operand c → Type 0
 IsRest s k {c} rest =
-    (d : Count) (row : Row_of-Operand d) → are_of_level s k row ≡ true → Same (operands_yield rest) (operands_yield row) (operands_shape rest ≡ operands_shape row) (ExprEnds s k)
+    (d : Count) (row : Row_of-Operand d) → are_of_level s k row ≡ true
+    → Same (operands_yield rest) (operands_yield row) (operands_shape rest ≡ operands_shape row) (ExprEnds s k)
 
 -- the two are chains: of one level, or one of them begins the other, which can't be
-chains_by : (s : Bool) (n m : ℕ) (first : Expr) {c : _} (rest : Row_of-Operand c) (front : Expr) {d : _} (others : Row_of-Operand d) (lt gt : Bool)
+chains_by : (s : Bool) (n m : ℕ) (first : Expr) {c : _} (rest : Row_of-Operand c) (front : Expr) {d : _}
+    (others : Row_of-Operand d) (lt gt : Bool)
     → nat_lt (first_level rest) (first_level others) ≡ lt → nat_lt (first_level others) (first_level rest) ≡ gt
     → ChainParts s m first rest → ChainParts s n front others → n ≤ first_level rest
-    → (first_level rest < first_level others → Same (expr_yield first) (chain_yield front others) (expr_shape first ≡ chain_shape front others) (ExprEnds s (suc (first_level rest))))
-    → (first_level others < first_level rest → Same (chain_yield first rest) (expr_yield front) (chain_shape first rest ≡ expr_shape front) (ExprEnds s (suc (first_level others))))
-    → (first_level others ≡ first_level rest → Same (expr_yield first) (expr_yield front) (expr_shape first ≡ expr_shape front) (ExprEnds s (suc (first_level rest))))
+    → (first_level rest < first_level others
+    → Same (expr_yield first) (chain_yield front others) (expr_shape first ≡ chain_shape front others)
+    (ExprEnds s (suc (first_level rest))))
+    → (first_level others < first_level rest
+    → Same (chain_yield first rest) (expr_yield front) (chain_shape first rest ≡ expr_shape front)
+    (ExprEnds s (suc (first_level others))))
+    → (first_level others ≡ first_level rest
+    → Same (expr_yield first) (expr_yield front) (expr_shape first ≡ expr_shape front)
+    (ExprEnds s (suc (first_level rest))))
     → IsRest s (first_level rest) rest
-    → Same (chain_yield first rest) (chain_yield front others) (chain_shape first rest ≡ chain_shape front others) (ExprEnds s n)
+    → Same (chain_yield first rest) (chain_yield front others) (chain_shape first rest ≡ chain_shape front others)
+    (ExprEnds s n)
 chains_by s n m first rest front others true gt e f a b le below above equal row =
     let lt = ltb-true _ _ e in
     turned (λ h. h) (shorter s n first rest (at_level s m n first rest a le) (turned (λ h. h) (below lt)))
@@ -280,14 +305,18 @@ chains_by s n m first rest front others false false e f a b le below above equal
     (so (λ h. let x = h.0 in let y = h.1 in cc)
     (then (equal same) (operands_end s level rest a.others) (operands_end s level others good) (row _ others good)))
 
-chain_one : (s : Bool) (m : ℕ) (first : Expr) {c : _} (rest : Row_of-Operand c) → ChainParts s m first rest → IsFirst s (suc (first_level rest)) first → IsRest s (first_level rest) rest
+chain_one : (s : Bool) (m : ℕ) (first : Expr) {c : _} (rest : Row_of-Operand c) → ChainParts s m first rest
+    → IsFirst s (suc (first_level rest)) first → IsRest s (first_level rest) rest
     → (n : ℕ) → n ≤ first_level rest → (b : Expr) → IsOfLevel s n b
     → Same (chain_yield first rest) (expr_yield b) (chain_shape first rest ≡ expr_shape b) (ExprEnds s n)
 chain_one s m first rest a ih row n le (Chain' p front shape others) h =
     let b = chain_parts s n front others h in
-    chains_by s n m first rest front others (nat_lt (first_level rest) (first_level others)) (nat_lt (first_level others) (first_level rest)) refl refl a b le
-    (λ (lt : first_level rest < first_level others). ih (Chain' p front shape others) (chain_level s n (suc (first_level rest)) front others b (omega arith)))
-    (λ (lt : first_level others < first_level rest). chain_one s m first rest a ih row (suc (first_level others)) (omega arith) front b.front)
+    chains_by s n m first rest front others (nat_lt (first_level rest) (first_level others))
+    (nat_lt (first_level others) (first_level rest)) refl refl a b le
+    (λ (lt : first_level rest < first_level others). ih (Chain' p front shape others)
+    (chain_level s n (suc (first_level rest)) front others b (omega arith)))
+    (λ (lt : first_level others < first_level rest). chain_one s m first rest a ih row (suc (first_level others))
+    (omega arith) front b.front)
     (λ (e : first_level others ≡ first_level rest). ih front (subst (λ k. IsOfLevel s (suc k) front) e b.front))
     row
 chain_one s m first rest a ih row n le b h =
@@ -295,23 +324,29 @@ chain_one s m first rest a ih row n le b h =
     (turned (λ h. h) (ih b (raised s n (suc (first_level rest)) b (omega (arith, a.some)) refl h))))
 
 -- an operator can't be behind the last operand
-no_operator : (s : Bool) (k : ℕ) (o : Operator) (x y : List Piece) {P : Type 0} → is_operator_of s k o ≡ true → Same [] (operator_yield o ++ x ++ y) P (ExprEnds s k)
+no_operator : (s : Bool) (k : ℕ) (o : Operator) (x y : List Piece) {P : Type 0} → is_operator_of s k o ≡ true
+    → Same [] (operator_yield o ++ x ++ y) P (ExprEnds s k)
 no_operator s k o x y is =
-    contrary (leads_to (λ t (ends : ExprEnds s k t). ends.operators o (omega (arith, level_is s k o is)) (itself s k o is)) leads_none)
+    contrary (leads_to (λ t (ends : ExprEnds s k t). ends.operators o (omega (arith, level_is s k o is))
+    (itself s k o is)) leads_none)
     (leads_first _ (leads_first _ (operator_begins o)))
 
-same_end : (s : Bool) (k : ℕ) {d : _} (row : Row_of-Operand d) → are_of_level s k row ≡ true → Same [] (operands_yield row) (Nothing ≡ operands_shape row) (ExprEnds s k)
+same_end : (s : Bool) (k : ℕ) {d : _} (row : Row_of-Operand d) → are_of_level s k row ≡ true
+    → Same [] (operands_yield row) (Nothing ≡ operands_shape row) (ExprEnds s k)
 same_end s k end_of-Operand h = so (λ u. refl) (fixed [])
 same_end s k (more_of-Operand o e rest) h = no_operator s k o _ _ (row_parts s k o e rest h).operator
 
-same_more : (s : Bool) (k : ℕ) (o : Operator) (e : Expr) {c : _} (rest : Row_of-Operand c) → RowParts s k o e rest → IsFirst s (suc k) e → IsRest s k rest
+same_more : (s : Bool) (k : ℕ) (o : Operator) (e : Expr) {c : _} (rest : Row_of-Operand c) → RowParts s k o e rest
+    → IsFirst s (suc k) e → IsRest s k rest
     → (d : Count) (row : Row_of-Operand d) → are_of_level s k row ≡ true
-    → Same (operator_yield o ++ expr_yield e ++ operands_yield rest) (operands_yield row) (Both (Both (operator_shape o) (expr_shape e)) (operands_shape rest) ≡ operands_shape row) (ExprEnds s k)
+    → Same (operator_yield o ++ expr_yield e ++ operands_yield rest) (operands_yield row)
+    (Both (Both (operator_shape o) (expr_shape e)) (operands_shape rest) ≡ operands_shape row) (ExprEnds s k)
 same_more s k o e rest parts one others d end_of-Operand h = turned (λ h. h) (no_operator s k o _ _ parts.operator)
 same_more s k o e rest parts one others d (more_of-Operand q f row) h =
     let theirs = row_parts s k q f row h in
     so (λ h. let x = h.0.0 in let y = h.0.1 in let z = h.1 in cc)
-    (then (next (same_operator o q) (one f theirs.operand)) (operands_end s k rest parts.others) (operands_end s k row theirs.others) (others _ row theirs.others))
+    (then (next (same_operator o q) (one f theirs.operand)) (operands_end s k rest parts.others)
+    (operands_end s k row theirs.others) (others _ row theirs.others))
 
 -- ---- any expression
 
@@ -323,13 +358,15 @@ mutual
   same_expr s n (Character x) h = one_alone s (Character x) (character_one s x) n
   same_expr s n (Text x) h = one_alone s (Text x) (text_one s x) n
   same_expr s n (Boolean v x) h = one_alone s (Boolean v x) (boolean_one s v x) n
-  same_expr s n (Parenthesized' l p inner) h = one_alone s (Parenthesized' l p inner) (parenthesized_one s l p inner (same_expr true 0 inner h)) n
+  same_expr s n (Parenthesized' l p inner) h =
+      one_alone s (Parenthesized' l p inner) (parenthesized_one s l p inner (same_expr true 0 inner h)) n
   same_expr s n (Signed' l o p inner) h =
       let parts = and_parts (nat_lt n 7) (is_of_level s 7 inner) h in
       one_alone s (Signed' l o p inner) (signed_one s l o p inner (same_expr s 7 inner parts.1)) n
   same_expr s n (Chain' p first shape rest) h =
       let c = chain_parts s n first rest h in
-      chain_one s n first rest c (same_expr s (suc (first_level rest)) first c.front) (same_operands s (first_level rest) rest c.others) n c.within
+      chain_one s n first rest c (same_expr s (suc (first_level rest)) first c.front)
+      (same_operands s (first_level rest) rest c.others) n c.within
 
   same_operands : (s : Bool) (k : ℕ) {c : _} (rest : Row_of-Operand c) → are_of_level s k rest ≡ true → IsRest s k rest
   same_operands s k end_of-Operand h d row e = same_end s k row e
@@ -339,7 +376,8 @@ mutual
 
 -- ---- constant expressions and bounds
 
-pub same_const_expr : (a b : ConstExpr) → Same (const_expr_yield a) (const_expr_yield b) (const_expr_shape a ≡ const_expr_shape b) (ExprEnds true 0)
+pub same_const_expr : (a b : ConstExpr)
+    → Same (const_expr_yield a) (const_expr_yield b) (const_expr_shape a ≡ const_expr_shape b) (ExprEnds true 0)
 same_const_expr a b = same_expr true 0 a.expr a.groups b.expr b.groups
 
 pub same_bound : (a b : Bound) → Same (bound_yield a) (bound_yield b) (bound_shape a ≡ bound_shape b) (ExprEnds false 0)

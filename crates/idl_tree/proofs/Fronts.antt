@@ -30,7 +30,8 @@ pub record Split (x y : List Piece) (tokens left : List Seen) : Type 0 where
   pub front : Reads x tokens middle
   pub back : Reads y middle left
 
-split_at : (x y : List Piece) (t r : List Seen) (o : Option (List Seen)) → past x (Some t) ≡ o → past y o ≡ Some r → Split x y t r
+split_at : (x y : List Piece) (t r : List Seen) (o : Option (List Seen)) → past x (Some t) ≡ o → past y o ≡ Some r
+    → Split x y t r
 split_at x y t r None e h = let none = past_none y in absurd (cc)
 split_at x y t r (Some m) e h = record { middle = m; front = record { is = e }; back = record { is = h } }
 
@@ -89,7 +90,9 @@ begins (t ∷ ts) = number_of t.kind t.text
 
 kind_of : ℕ → Kind
 kind_of n =
-    cond (nat_eq n 0) Ident (cond (nat_eq n 1) Keyword (cond (nat_eq n 2) Punct (cond (nat_eq n 3) Number (cond (nat_eq n 4) CharLit (cond (nat_eq n 5) TextLit Pragma)))))
+    cond (nat_eq n 0) Ident (cond (nat_eq n 1) Keyword
+    (cond (nat_eq n 2) Punct
+    (cond (nat_eq n 3) Number (cond (nat_eq n 4) CharLit (cond (nat_eq n 5) TextLit Pragma)))))
 
 kind_of-kind_code : (k : Kind) → kind_of (kind_code k) ≡ k
 unfolding kind_of
@@ -125,7 +128,8 @@ same_parts a b h =
     ∙ ap (λ n. of_parts b.kind b.text b.start n a.line) (eqb-true a.«end» b.«end» four.1)
     ∙ ap (of_parts b.kind b.text b.start b.«end») (eqb-true a.line b.line five.1)
 
-parts_of_test : (p : Piece) (s : Seen) → is_piece p s ≡ true → (p.kind ≡ s.kind) × (p.text ≡ s.text) × (is_kept p.token s.token ≡ true)
+parts_of_test : (p : Piece) (s : Seen) → is_piece p s ≡ true → (p.kind ≡ s.kind) × (p.text ≡ s.text)
+    × (is_kept p.token s.token ≡ true)
 parts_of_test p s h =
     let kinds = nat_eq (kind_code p.kind) (kind_code s.kind) in
     let texts = bytes_eq p.text s.text in
@@ -146,7 +150,8 @@ pub record First (p : Piece) (t r : List Seen) : Type 0 where
 abbrev taken : Bool → List Seen → Option (List Seen)
 taken b ts = elim b [ true ↦ Some ts | false ↦ None ]
 
-first_by : (b : Bool) (p : Piece) (s : Seen) (ts r : List Seen) → is_piece p s ≡ b → past [] (taken b ts) ≡ Some r → First p (s ∷ ts) r
+first_by : (b : Bool) (p : Piece) (s : Seen) (ts r : List Seen) → is_piece p s ≡ b → past [] (taken b ts) ≡ Some r
+    → First p (s ∷ ts) r
 unfolding past
 first_by true p s ts r e h =
     let parts = parts_of_test p s e in
@@ -161,16 +166,19 @@ first_of p (s ∷ ts) r h = first_by (is_piece p s) p s ts r refl h
 
 first_begins : (p : Piece) (t r : List Seen) → First p t r → begins t ≡ number_of p.kind p.text
 unfolding begins
-first_begins p t r f = ap begins f.is ∙ ap (λ k. number_of k f.token.text) (sym f.kind) ∙ ap (number_of p.kind) (sym f.text)
+first_begins p t r f = ap begins f.is ∙ ap (λ k. number_of k f.token.text) (sym f.kind)
+    ∙ ap (number_of p.kind) (sym f.text)
 
 pub one_first : (p : Piece) (t r : List Seen) → Reads (p ∷ []) t r → First p t r
 one_first p t r h = first_of p t r h.is
 
-pub piece_first : (k : Kind) (text : List ℕ) (t r : List Seen) → Reads (piece k text) t r → First (record { kind = k; text = text; token = None; touches = false }) t r
+pub piece_first : (k : Kind) (text : List ℕ) (t r : List Seen) → Reads (piece k text) t r
+    → First (record { kind = k; text = text; token = None; touches = false }) t r
 unfolding piece
 piece_first k text t r h = first_of _ t r h.is
 
-pub kept_first : (k : Kind) (text : List ℕ) (l : Leaf) (t r : List Seen) → Reads (kept k text l) t r → First (record { kind = k; text = text; token = Some (l.number, parts_of l.token); touches = false }) t r
+pub kept_first : (k : Kind) (text : List ℕ) (l : Leaf) (t r : List Seen) → Reads (kept k text l) t r
+    → First (record { kind = k; text = text; token = Some (l.number, parts_of l.token); touches = false }) t r
 unfolding kept
 kept_first k text l t r h = first_of _ t r h.is
 
@@ -182,7 +190,8 @@ pub touching_first : (text : List ℕ) (t r : List Seen) → Reads (touching tex
 unfolding touching
 touching_first text t r h = first_of _ t r h.is
 
-touches_by : (b : Bool) (p : Piece) (s : Seen) (ts r : List Seen) → is_piece p s ≡ b → p.touches ≡ true → past [] (taken b ts) ≡ Some r → s.touches ≡ true
+touches_by : (b : Bool) (p : Piece) (s : Seen) (ts r : List Seen) → is_piece p s ≡ b → p.touches ≡ true
+    → past [] (taken b ts) ≡ Some r → s.touches ≡ true
 unfolding past
 touches_by true p s ts r e k h =
     let kinds = nat_eq (kind_code p.kind) (kind_code s.kind) in
@@ -191,11 +200,14 @@ touches_by true p s ts r e k h =
     sym no ∙ all.1
 touches_by false p s ts r e k h = absurd (cc)
 
-touches_at : (p : Piece) (t r : List Seen) (s : Seen) (ts : List Seen) → t ≡ s ∷ ts → past (p ∷ []) (Some t) ≡ Some r → p.touches ≡ true → s.touches ≡ true
+touches_at : (p : Piece) (t r : List Seen) (s : Seen) (ts : List Seen) → t ≡ s ∷ ts → past (p ∷ []) (Some t) ≡ Some r
+    → p.touches ≡ true → s.touches ≡ true
 unfolding past
-touches_at p t r s ts e h k = touches_by (is_piece p s) p s ts r refl k (subst (λ z. past (p ∷ []) (Some z) ≡ Some r) e h)
+touches_at p t r s ts e h k =
+    touches_by (is_piece p s) p s ts r refl k (subst (λ z. past (p ∷ []) (Some z) ≡ Some r) e h)
 
-pub touching_touches : (text : List ℕ) (t r : List Seen) (s : Seen) (ts : List Seen) → t ≡ s ∷ ts → Reads (touching text) t r → s.touches ≡ true
+pub touching_touches : (text : List ℕ) (t r : List Seen) (s : Seen) (ts : List Seen) → t ≡ s ∷ ts
+    → Reads (touching text) t r → s.touches ≡ true
 unfolding touching
 touching_touches text t r s ts e h = touches_at (touching_piece text) t r s ts e h.is refl
 
@@ -205,7 +217,8 @@ pub piece_begins : (k : Kind) (text : List ℕ) (t r : List Seen) → Reads (pie
 unfolding piece
 piece_begins k text t r h = first_begins _ t r (first_of _ t r h.is)
 
-pub kept_begins : (k : Kind) (text : List ℕ) (l : Leaf) (t r : List Seen) → Reads (kept k text l) t r → begins t ≡ number_of k text
+pub kept_begins : (k : Kind) (text : List ℕ) (l : Leaf) (t r : List Seen) → Reads (kept k text l) t r
+    → begins t ≡ number_of k text
 unfolding kept
 kept_begins k text l t r h = first_begins _ t r (first_of _ t r h.is)
 
@@ -224,7 +237,8 @@ pub record SameKept (a b : Leaf) (x y : List ℕ) (r q : List Seen) : Type 0 whe
   pub token : parts_of a.token ≡ parts_of b.token
   pub left : r ≡ q
 
-same_firsts : (k : Kind) (x y : List ℕ) (a b : Leaf) (t r q : List Seen) → First (kept_piece k x a) t r → First (kept_piece k y b) t q → SameKept a b x y r q
+same_firsts : (k : Kind) (x y : List ℕ) (a b : Leaf) (t r q : List Seen) → First (kept_piece k x a) t r
+    → First (kept_piece k y b) t q → SameKept a b x y r q
 same_firsts k x y a b t r q f g =
     let lists : f.token ∷ r ≡ g.token ∷ q = sym f.is ∙ g.is in
     let token : f.token ≡ g.token = cc in
@@ -237,6 +251,7 @@ same_firsts k x y a b t r q f g =
       left = cc;
     }
 
-pub same_kept : (k : Kind) (x y : List ℕ) (a b : Leaf) (t r q : List Seen) → Reads (kept k x a) t r → Reads (kept k y b) t q → SameKept a b x y r q
+pub same_kept : (k : Kind) (x y : List ℕ) (a b : Leaf) (t r q : List Seen) → Reads (kept k x a) t r
+    → Reads (kept k y b) t q → SameKept a b x y r q
 unfolding kept
 same_kept k x y a b t r q h g = same_firsts k x y a b t r q (first_of _ t r h.is) (first_of _ t q g.is)

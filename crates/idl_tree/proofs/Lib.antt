@@ -7,15 +7,15 @@ pub mod YieldLengths
 pub mod SpelledForms
 pub mod Fronts
 mod Same
-mod Lists
-mod Names
+mod TreeLists
+mod TreeNames
 mod Operators
 mod Expressions
-mod Types
-mod TreeLawsMembers
+mod TreeTypes
+mod TreeMembers
 mod Declarations
 mod Interfaces
-mod Definitions
+mod TreeDefinitions
 mod Takes
 mod NameWays
 mod ExprWays

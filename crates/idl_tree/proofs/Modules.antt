@@ -21,11 +21,15 @@ module_pieces name inner =
 pub module_yields : (name : Leaf) (definitions : Vec Definition Global)
     → definition_yield (module_of name definitions) ≡ module_pieces name (flat_map definition_yield definitions.items)
 module_yields name definitions =
-    module_walk definition_yield (λ n row. definitions_yield row) module_pieces [] (λ d others. definition_yield d ++ others) (flat_map definition_yield)
-    (λ id shape row. refl) refl (λ n d row. refl) refl (λ d ds. refl) (record { identifier = name; definitions = definitions })
+    module_walk definition_yield (λ n row. definitions_yield row) module_pieces []
+    (λ d others. definition_yield d ++ others) (flat_map definition_yield)
+    (λ id shape row. refl) refl (λ n d row. refl) refl (λ d ds. refl)
+    (record { identifier = name; definitions = definitions })
 
 pub module_nests : (name : Leaf) (definitions : Vec Definition Global)
     → definition_levels (module_of name definitions) ≡ suc (highest definition_levels definitions.items)
 module_nests name definitions =
-    module_walk definition_levels (λ n row. definitions_levels row) (λ id most. suc most) 0 (λ d most. max (definition_levels d) most) (highest definition_levels)
-    (λ id shape row. refl) refl (λ n d row. refl) refl (λ d ds. refl) (record { identifier = name; definitions = definitions })
+    module_walk definition_levels (λ n row. definitions_levels row) (λ id most. suc most) 0
+    (λ d most. max (definition_levels d) most) (highest definition_levels)
+    (λ id shape row. refl) refl (λ n d row. refl) refl (λ d ds. refl)
+    (record { identifier = name; definitions = definitions })

@@ -11,10 +11,11 @@ use Rattle.std.specs.Prelude.{nat_eq}
 use Rattle.idl_tree.specs.Yields.{identifier, optional, root_yield, name_yield}
 use Rattle.idl_tree.specs.Descent.{Way, sees_kind, sees_mark, mark_taken, and_then, identifier_way, root_way, parts_way, name_way}
 use Rattle.idl_tree.proofs.Same.{Among, Any, leads_first, piece_among, kept_among}
-use Rattle.idl_tree.proofs.Names.{NameEnds}
+use Rattle.idl_tree.proofs.TreeNames.{NameEnds}
 use Rattle.idl_tree.proofs.Takes.{Takes, Front, front, front_on, front_next, last_next, takes_none, Shows, shows_first, shows_none, shows_so, unseen, avoided, choose, pass, piece_takes, piece_shows, kept_takes, kept_shows, leaf_takes, kept_kind, Repeats, takes_repeated, none_high}
 
-parts : Repeats (λ (l : Leaf). mark (codes "::") ++ identifier l) (λ _. 0) 0 (λ t. sees_mark (codes "::") t) (λ u. and_then (mark_taken (codes "::") u) (λ v. identifier_way v)) (18 ∷ []) Any NameEnds
+parts : Repeats (λ (l : Leaf). mark (codes "::") ++ identifier l) (λ _. 0) 0 (λ t. sees_mark (codes "::") t)
+    (λ u. and_then (mark_taken (codes "::") u) (λ v. identifier_way v)) (18 ∷ []) Any NameEnds
 parts = record {
   takes = λ x few. last_next (front (piece_takes Punct (codes "::"))) (leaf_takes Ident x);
   shows = λ x. shows_first _ (piece_shows Punct (codes "::"));
@@ -39,7 +40,8 @@ starts : (root : Option Leaf) (first : Leaf) → Front (optional root_yield root
 starts None first = front_on (front no_root) (kept_among Ident _ first _ refl) (front (leaf_takes Ident first))
 starts (Some root) first = front_next (front (takes_root root)) (front (leaf_takes Ident first))
 
-takes_parts : (xs : List Leaf) → Takes (flat_map (λ (l : Leaf). mark (codes "::") ++ identifier l) xs) parts_way NameEnds
+takes_parts : (xs : List Leaf)
+    → Takes (flat_map (λ (l : Leaf). mark (codes "::") ++ identifier l) xs) parts_way NameEnds
 takes_parts xs = takes_repeated parts xs (none_high xs)
 
 -- an identifier alone
@@ -55,12 +57,14 @@ takes_name (Plain l) = takes_plain l
 takes_name (Scoped p) = last_next (starts p.value.root p.value.first) (takes_parts p.value.rest.items)
 
 -- a name begins with an identifier or a mark
-start_kind : (root : Option Leaf) (first : Leaf) (k : Kind) → nat_eq (kind_code k) (kind_code Ident) ≡ false → nat_eq (kind_code k) (kind_code Punct) ≡ false
+start_kind : (root : Option Leaf) (first : Leaf) (k : Kind) → nat_eq (kind_code k) (kind_code Ident) ≡ false
+    → nat_eq (kind_code k) (kind_code Punct) ≡ false
     → Shows (optional root_yield root ++ identifier first) Any (λ t. sees_kind k t) false
 start_kind None first k h e = shows_so h (kept_kind Ident _ first k)
 start_kind (Some root) first k h e = shows_first _ (shows_so e (kept_kind Punct (codes "::") root k))
 
-pub name_kind : (n : ScopedName) (k : Kind) → nat_eq (kind_code k) (kind_code Ident) ≡ false → nat_eq (kind_code k) (kind_code Punct) ≡ false → {S : List Seen → Type 0}
+pub name_kind : (n : ScopedName) (k : Kind) → nat_eq (kind_code k) (kind_code Ident) ≡ false
+    → nat_eq (kind_code k) (kind_code Punct) ≡ false → {S : List Seen → Type 0}
     → Shows (name_yield n) S (λ t. sees_kind k t) false
 name_kind (Plain l) k h e = shows_so h (kept_kind Ident _ l k)
 name_kind (Scoped p) k h e = shows_first _ (start_kind p.value.root p.value.first k h e)

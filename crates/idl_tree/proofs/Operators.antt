@@ -26,8 +26,10 @@ operator_number Remainder = 67
 
 operator_at : ℕ → Operator
 operator_at n =
-    cond (nat_eq n 60) Or (cond (nat_eq n 61) Xor (cond (nat_eq n 62) And (cond (nat_eq n 63) ShiftLeft (cond (nat_eq n 64) ShiftRight
-    (cond (nat_eq n 57) Add (cond (nat_eq n 56) Subtract (cond (nat_eq n 65) Multiply (cond (nat_eq n 66) Divide Remainder))))))))
+    cond (nat_eq n 60) Or (cond (nat_eq n 61) Xor
+    (cond (nat_eq n 62) And (cond (nat_eq n 63) ShiftLeft (cond (nat_eq n 64) ShiftRight
+    (cond (nat_eq n 57) Add (cond (nat_eq n 56) Subtract
+    (cond (nat_eq n 65) Multiply (cond (nat_eq n 66) Divide Remainder))))))))
 
 operator_at_number : (o : Operator) → operator_at (operator_number o) ≡ o
 unfolding operator_at
@@ -64,10 +66,12 @@ among_one n t a = by_test (nat_eq n (begins t)) refl a.is
     by_test true e h = sym (eqb-true n (begins t) e)
     by_test false e h = absurd (cc)
 
-same_pieces : (o q : Operator) (t r l : List Seen) → o ≡ q → Reads (operator_yield o) t r → Reads (operator_yield q) t l → r ≡ l
+same_pieces : (o q : Operator) (t r l : List Seen) → o ≡ q → Reads (operator_yield o) t r → Reads (operator_yield q) t l
+    → r ≡ l
 same_pieces o q t r l e h k = reads_one h (subst (λ p. Reads (operator_yield p) t l) (sym e) k)
 
-pub same_operator : (o q : Operator) {S : List Seen → Type 0} → Same (operator_yield o) (operator_yield q) (operator_shape o ≡ operator_shape q) S
+pub same_operator : (o q : Operator) {S : List Seen → Type 0}
+    → Same (operator_yield o) (operator_yield q) (operator_shape o ≡ operator_shape q) S
 same_operator o q = record {
   by = λ t r l h k s u.
       let a = among_one _ t ((operator_begins o).by t r h tt) in
@@ -80,7 +84,8 @@ same_operator o q = record {
 
 pub record ExprEnds (shifts : Bool) (n : ℕ) (t : List Seen) : Type 0 where
   pub names : Avoids (18 ∷ 54 ∷ []) t
-  pub operators : (o : Operator) → n ≤ level_of o → is_operator_of shifts (level_of o) o ≡ true → Avoids (operator_number o ∷ []) t
+  pub operators : (o : Operator) → n ≤ level_of o → is_operator_of shifts (level_of o) o ≡ true
+      → Avoids (operator_number o ∷ []) t
 
 pub tighter : (s : Bool) (n m : ℕ) (t : List Seen) → n ≤ m → ExprEnds s n t → ExprEnds s m t
 tighter s n m t le ends = record { names = ends.names; operators = λ o h is. ends.operators o (omega arith) is }
@@ -129,7 +134,8 @@ differ n t h = by_test (nat_eq n (begins t)) refl
     by_test false e = record { is = ap (λ b. b || false) e }
 
 -- an operator of the level ends what is tighter
-pub operator_ends : (s : Bool) (k : ℕ) (o : Operator) (t : List Seen) → level_of o ≡ k → Among (operator_number o ∷ []) t → ExprEnds s (suc k) t
+pub operator_ends : (s : Bool) (k : ℕ) (o : Operator) (t : List Seen) → level_of o ≡ k
+    → Among (operator_number o ∷ []) t → ExprEnds s (suc k) t
 operator_ends s k o t e a = record {
   names = no_name o t a;
   operators = λ q h is. differ _ t (λ b.
@@ -157,4 +163,5 @@ pub operands_end : (s : Bool) (k : ℕ) {n : _} (rest : Row_of-Operand n) → ar
 operands_end s k end_of-Operand h = leads_to (λ t. tighter s k (suc k) t (omega arith)) leads_none
 operands_end s k (more_of-Operand o e rest) h =
     let parts = row_parts s k o e rest h in
-    leads_first _ (leads_first _ (leads_to (λ t. operator_ends s k o t (level_is s k o parts.operator)) (operator_begins o)))
+    leads_first _ (leads_first _
+    (leads_to (λ t. operator_ends s k o t (level_is s k o parts.operator)) (operator_begins o)))

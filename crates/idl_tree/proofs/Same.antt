@@ -32,7 +32,8 @@ not_true : (b : Bool) → not b ≡ true → b ≡ false
 not_true true h = absurd (cc)
 not_true false h = refl
 
-apart_by : (m : ℕ) (ms ns : List ℕ) (n : ℕ) (b : Bool) → nat_eq m n ≡ b → not (is_in ns m) ≡ true → (is_in ms n ≡ true → is_in ns n ≡ false)
+apart_by : (m : ℕ) (ms ns : List ℕ) (n : ℕ) (b : Bool) → nat_eq m n ≡ b → not (is_in ns m) ≡ true
+    → (is_in ms n ≡ true → is_in ns n ≡ false)
     → (b || is_in ms n) ≡ true → is_in ns n ≡ false
 apart_by m ms ns n true e here others k = subst (λ z. is_in ns z ≡ false) (eqb-true m n e) (not_true (is_in ns m) here)
 apart_by m ms ns n false e here others k = others k
@@ -73,7 +74,8 @@ more_at (m ∷ ms) ns n h k =
     let parts = and_parts (is_in ns m) (are_some_of ms ns) h in
     more_by m ms ns n (nat_eq m n) refl parts.0 (more_at ms ns n parts.1) k
   where
-    more_by : (m : ℕ) (ms ns : List ℕ) (n : ℕ) (b : Bool) → nat_eq m n ≡ b → is_in ns m ≡ true → (is_in ms n ≡ true → is_in ns n ≡ true) → (b || is_in ms n) ≡ true → is_in ns n ≡ true
+    more_by : (m : ℕ) (ms ns : List ℕ) (n : ℕ) (b : Bool) → nat_eq m n ≡ b → is_in ns m ≡ true
+        → (is_in ms n ≡ true → is_in ns n ≡ true) → (b || is_in ms n) ≡ true → is_in ns n ≡ true
     more_by m ms ns n true e here others k = sym (ap (is_in ns) (eqb-true m n e)) ∙ here
     more_by m ms ns n false e here others k = others k
 
@@ -104,19 +106,24 @@ leads_first y f = leads_on f (record { by = λ t r h s. tt })
 pub leads_to : {x : List Piece} {S E F : List Seen → Type 0} → ((t : List Seen) → E t → F t) → Leads x S E → Leads x S F
 leads_to w f = record { by = λ t r h s. w t (f.by t r h s) }
 
-pub piece_among : (k : Kind) (text : List ℕ) (ns : List ℕ) → is_in ns (number_of k text) ≡ true → {S : List Seen → Type 0} → Leads (piece k text) S (Among ns)
+pub piece_among : (k : Kind) (text : List ℕ) (ns : List ℕ) → is_in ns (number_of k text) ≡ true
+    → {S : List Seen → Type 0} → Leads (piece k text) S (Among ns)
 piece_among k text ns h = record { by = λ t r e s. record { is = ap (is_in ns) (piece_begins k text t r e) ∙ h } }
 
-pub piece_avoids : (k : Kind) (text : List ℕ) (ns : List ℕ) → is_in ns (number_of k text) ≡ false → {S : List Seen → Type 0} → Leads (piece k text) S (Avoids ns)
+pub piece_avoids : (k : Kind) (text : List ℕ) (ns : List ℕ) → is_in ns (number_of k text) ≡ false
+    → {S : List Seen → Type 0} → Leads (piece k text) S (Avoids ns)
 piece_avoids k text ns h = record { by = λ t r e s. record { is = ap (is_in ns) (piece_begins k text t r e) ∙ h } }
 
-pub kept_among : (k : Kind) (text : List ℕ) (l : Leaf) (ns : List ℕ) → is_in ns (number_of k text) ≡ true → {S : List Seen → Type 0} → Leads (kept k text l) S (Among ns)
+pub kept_among : (k : Kind) (text : List ℕ) (l : Leaf) (ns : List ℕ) → is_in ns (number_of k text) ≡ true
+    → {S : List Seen → Type 0} → Leads (kept k text l) S (Among ns)
 kept_among k text l ns h = record { by = λ t r e s. record { is = ap (is_in ns) (kept_begins k text l t r e) ∙ h } }
 
-pub kept_avoids : (k : Kind) (text : List ℕ) (l : Leaf) (ns : List ℕ) → is_in ns (number_of k text) ≡ false → {S : List Seen → Type 0} → Leads (kept k text l) S (Avoids ns)
+pub kept_avoids : (k : Kind) (text : List ℕ) (l : Leaf) (ns : List ℕ) → is_in ns (number_of k text) ≡ false
+    → {S : List Seen → Type 0} → Leads (kept k text l) S (Avoids ns)
 kept_avoids k text l ns h = record { by = λ t r e s. record { is = ap (is_in ns) (kept_begins k text l t r e) ∙ h } }
 
-pub touching_among : (text : List ℕ) (ns : List ℕ) → is_in ns (number_of Punct text) ≡ true → {S : List Seen → Type 0} → Leads (touching text) S (Among ns)
+pub touching_among : (text : List ℕ) (ns : List ℕ) → is_in ns (number_of Punct text) ≡ true → {S : List Seen → Type 0}
+    → Leads (touching text) S (Among ns)
 touching_among text ns h = record { by = λ t r e s. record { is = ap (is_in ns) (touching_begins text t r e) ∙ h } }
 
 -- ---- what is the same
@@ -130,10 +137,12 @@ fixed x = record { by = λ t r q h k s u. (tt, reads_one h k) }
 pub so : {x y : List Piece} {P Q : Type 0} {S : List Seen → Type 0} → (P → Q) → Same x y P S → Same x y Q S
 so f p = record { by = λ t r q h k s u. let got = p.by t r q h k s u in (f got.0, got.1) }
 
-pub under : {x y : List Piece} {P : Type 0} {S E : List Seen → Type 0} → ((t : List Seen) → S t → E t) → Same x y P E → Same x y P S
+pub under : {x y : List Piece} {P : Type 0} {S E : List Seen → Type 0} → ((t : List Seen) → S t → E t) → Same x y P E
+    → Same x y P S
 under f p = record { by = λ t r q h k s u. p.by t r q h k (f r s) (f q u) }
 
-pub then : {x x' y y' : List Piece} {P Q : Type 0} {S E : List Seen → Type 0} → Same x x' P E → Leads y S E → Leads y' S E → Same y y' Q S → Same (x ++ y) (x' ++ y') (P × Q) S
+pub then : {x x' y y' : List Piece} {P Q : Type 0} {S E : List Seen → Type 0} → Same x x' P E → Leads y S E
+    → Leads y' S E → Same y y' Q S → Same (x ++ y) (x' ++ y') (P × Q) S
 then {x = x} {x' = x'} {y = y} {y' = y'} f l l' g = record {
   by = λ t r q h k s u.
       let a = split x y t r h in
@@ -144,21 +153,26 @@ then {x = x} {x' = x'} {y = y} {y' = y'} f l l' g = record {
 }
 
 -- pieces that are the same on both sides, behind others and before others
-pub ended : {x x' : List Piece} (y : List Piece) {P : Type 0} {S E : List Seen → Type 0} → Same x x' P E → Leads y S E → Same (x ++ y) (x' ++ y) P S
+pub ended : {x x' : List Piece} (y : List Piece) {P : Type 0} {S E : List Seen → Type 0} → Same x x' P E → Leads y S E
+    → Same (x ++ y) (x' ++ y) P S
 ended y f l = so (λ h. h.0) (then f l l (fixed y))
 
-pub begun : (x : List Piece) {y y' : List Piece} {P : Type 0} {S : List Seen → Type 0} → Same y y' P S → Same (x ++ y) (x ++ y') P S
+pub begun : (x : List Piece) {y y' : List Piece} {P : Type 0} {S : List Seen → Type 0} → Same y y' P S
+    → Same (x ++ y) (x ++ y') P S
 begun x f = so (λ h. h.1) (then (fixed x {S = Any}) (record { by = λ t r h s. tt }) (record { by = λ t r h s. tt }) f)
 
 -- where any tokens may stand behind the first
-pub next : {x x' y y' : List Piece} {P Q : Type 0} {S : List Seen → Type 0} → Same x x' P Any → Same y y' Q S → Same (x ++ y) (x' ++ y') (P × Q) S
+pub next : {x x' y y' : List Piece} {P Q : Type 0} {S : List Seen → Type 0} → Same x x' P Any → Same y y' Q S
+    → Same (x ++ y) (x' ++ y') (P × Q) S
 next f g = then f (record { by = λ t r h s. tt }) (record { by = λ t r h s. tt }) g
 
-pub closed : {x x' : List Piece} (y : List Piece) {P : Type 0} {S : List Seen → Type 0} → Same x x' P Any → Same (x ++ y) (x' ++ y) P S
+pub closed : {x x' : List Piece} (y : List Piece) {P : Type 0} {S : List Seen → Type 0} → Same x x' P Any
+    → Same (x ++ y) (x' ++ y) P S
 closed y f = so (λ h. h.0) (next f (fixed y))
 
 -- they can't both be there
-pub never : {x y : List Piece} {P : Type 0} {S : List Seen → Type 0} (ms ns : List ℕ) → are_apart ms ns ≡ true → Leads x S (Among ms) → Leads y S (Among ns) → Same x y P S
+pub never : {x y : List Piece} {P : Type 0} {S : List Seen → Type 0} (ms ns : List ℕ) → are_apart ms ns ≡ true
+    → Leads x S (Among ms) → Leads y S (Among ns) → Same x y P S
 never ms ns h f g = record {
   by = λ t r q a b s u.
       let one : is_in ns (begins t) ≡ true = (g.by t q b u).is in
@@ -166,7 +180,8 @@ never ms ns h f g = record {
       absurd (cc);
 }
 
-pub contrary : {x y : List Piece} {P : Type 0} {S : List Seen → Type 0} {ns : List ℕ} → Leads x S (Avoids ns) → Leads y S (Among ns) → Same x y P S
+pub contrary : {x y : List Piece} {P : Type 0} {S : List Seen → Type 0} {ns : List ℕ} → Leads x S (Avoids ns)
+    → Leads y S (Among ns) → Same x y P S
 contrary {ns = ns} f g = record {
   by = λ t r q a b s u.
       let one : is_in ns (begins t) ≡ true = (g.by t q b u).is in
@@ -175,7 +190,8 @@ contrary {ns = ns} f g = record {
 }
 
 -- pieces that are there too can't be more
-pub longer : {x z : List Piece} {P Q : Type 0} {S : List Seen → Type 0} {ns : List ℕ} (y : List Piece) → ((t : List Seen) → S t → Avoids ns t) → Same x z P Any → Leads y S (Among ns)
+pub longer : {x z : List Piece} {P Q : Type 0} {S : List Seen → Type 0} {ns : List ℕ} (y : List Piece)
+    → ((t : List Seen) → S t → Avoids ns t) → Same x z P Any → Leads y S (Among ns)
     → Same x (z ++ y) Q S
 longer {z = z} {ns = ns} y none f g = record {
   by = λ t r q a b s u.
@@ -202,19 +218,22 @@ pub clash_on : {x z : List Piece} {S : List Seen → Type 0} (y : List Piece) �
 clash_on {z = z} y f = record { by = λ t r q h s k. let two = split z y t q k in f.by t r two.middle h s two.front }
 
 -- behind what is the same, the ones can't end where the others go on
-pub clash_over : {x z o : List Piece} {P : Type 0} {S E : List Seen → Type 0} {ns : List ℕ} (y : List Piece) → ((t : List Seen) → S t → Avoids ns t) → Same x z P Any
+pub clash_over : {x z o : List Piece} {P : Type 0} {S E : List Seen → Type 0} {ns : List ℕ} (y : List Piece)
+    → ((t : List Seen) → S t → Avoids ns t) → Same x z P Any
     → Leads o E (Among ns) → Leads y Any E → Clash x (z ++ o ++ y) S
 clash_over {z = z} {o = o} {ns = ns} y none f over g = record {
   by = λ t r q a s b.
       let last = split (z ++ o) y t q b in
       let two = split z o t last.middle last.front in
       let here = (f.by t r two.middle a two.front tt tt).1 in
-      let one : is_in ns (begins two.middle) ≡ true = (over.by two.middle last.middle two.back (g.by last.middle q last.back tt)).is in
+      let one : is_in ns (begins two.middle) ≡ true =
+      (over.by two.middle last.middle two.back (g.by last.middle q last.back tt)).is in
       let no : is_in ns (begins r) ≡ false = (none r s).is in
       cc;
 }
 
-pub clash_longer : {x z : List Piece} {P : Type 0} {S : List Seen → Type 0} {ns : List ℕ} (y : List Piece) → ((t : List Seen) → S t → Avoids ns t) → Same x z P Any
+pub clash_longer : {x z : List Piece} {P : Type 0} {S : List Seen → Type 0} {ns : List ℕ} (y : List Piece)
+    → ((t : List Seen) → S t → Avoids ns t) → Same x z P Any
     → Leads y Any (Among ns) → Clash x (z ++ y) S
 clash_longer {z = z} {ns = ns} y none f g = record {
   by = λ t r q a s b.
@@ -226,20 +245,23 @@ clash_longer {z = z} {ns = ns} y none f g = record {
 }
 
 -- behind what is the same stand tokens that begin otherwise
-pub clash_behind : {x z y w : List Piece} {P : Type 0} {S : List Seen → Type 0} (ms ns : List ℕ) → are_apart ms ns ≡ true → Same x z P Any
+pub clash_behind : {x z y w : List Piece} {P : Type 0} {S : List Seen → Type 0} (ms ns : List ℕ)
+    → are_apart ms ns ≡ true → Same x z P Any
     → Leads y S (Among ms) → Leads w Any (Among ns) → Clash (x ++ y) (z ++ w) S
 clash_behind {x = x} {z = z} {y = y} {w = w} ms ns e f g h = record {
   by = λ t r q a s b.
       let one = split x y t r a in
       let two = split z w t q b in
       let here = (f.by t one.middle two.middle one.front two.front tt tt).1 in
-      let no : is_in ns (begins one.middle) ≡ false = apart_at ms ns (begins one.middle) e (g.by one.middle r one.back s).is in
+      let no : is_in ns (begins one.middle) ≡ false =
+      apart_at ms ns (begins one.middle) e (g.by one.middle r one.back s).is in
       let yes : is_in ns (begins two.middle) ≡ true = (h.by two.middle q two.back tt).is in
       cc;
 }
 
 -- what is the same of the first pieces tells of the second
-pub then_so : {x x' y y' : List Piece} {P Q : Type 0} {S E : List Seen → Type 0} → Same x x' P E → Leads y S E → Leads y' S E → (P → Same y y' Q S) → Same (x ++ y) (x' ++ y') (P × Q) S
+pub then_so : {x x' y y' : List Piece} {P Q : Type 0} {S E : List Seen → Type 0} → Same x x' P E → Leads y S E
+    → Leads y' S E → (P → Same y y' Q S) → Same (x ++ y) (x' ++ y') (P × Q) S
 then_so {x = x} {x' = x'} {y = y} {y' = y'} f l l' g = record {
   by = λ t r q h k s u.
       let a = split x y t r h in
@@ -251,7 +273,8 @@ then_so {x = x} {x' = x'} {y = y} {y' = y'} f l l' g = record {
 
 -- ---- tokens that are kept
 
-pub leaves_of : (k : Kind) (x y : List ℕ) (a b : Leaf) {S : List Seen → Type 0} → Same (kept k x a) (kept k y b) (token_shape x a ≡ token_shape y b) S
+pub leaves_of : (k : Kind) (x y : List ℕ) (a b : Leaf) {S : List Seen → Type 0}
+    → Same (kept k x a) (kept k y b) (token_shape x a ≡ token_shape y b) S
 leaves_of k x y a b = record {
   by = λ t r q h e s u.
       let one = same_kept k x y a b t r q h e in
@@ -261,5 +284,6 @@ leaves_of k x y a b = record {
       (cc, one.left);
 }
 
-pub leaves : (k : Kind) (a b : Leaf) {S : List Seen → Type 0} → Same (leaf k a) (leaf k b) (leaf_shape a ≡ leaf_shape b) S
+pub leaves : (k : Kind) (a b : Leaf) {S : List Seen → Type 0}
+    → Same (leaf k a) (leaf k b) (leaf_shape a ≡ leaf_shape b) S
 leaves k a b = leaves_of k _ _ a b

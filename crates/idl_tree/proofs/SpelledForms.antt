@@ -26,7 +26,8 @@ use Rattle.idl_tree.specs.DefinitionYields.{definitions_spelled, const_yield}
 
 kind_of : ℕ → Kind
 kind_of n =
-    cond (n == 0) Ident (cond (n == 1) Keyword (cond (n == 2) Punct (cond (n == 3) Number (cond (n == 4) CharLit (cond (n == 5) TextLit Pragma)))))
+    cond (n == 0) Ident (cond (n == 1) Keyword
+    (cond (n == 2) Punct (cond (n == 3) Number (cond (n == 4) CharLit (cond (n == 5) TextLit Pragma)))))
 
 kind_of-kind_code : (k : Kind) → kind_of (kind_code k) ≡ k
 unfolding kind_of
@@ -67,12 +68,14 @@ past_none (p ∷ ps) = past_none ps
 abbrev taken : Bool → List Seen → Option (List Seen)
 taken b ts = elim b [ true ↦ Some ts | false ↦ None ]
 
-by_test : (b : Bool) (p : Piece) (ps : List Piece) (t : Seen) (ts : List Seen) → is_piece p t ≡ b → is_end (past ps (taken b ts)) ≡ true → Fits p t × (is_end (past ps (Some ts)) ≡ true)
+by_test : (b : Bool) (p : Piece) (ps : List Piece) (t : Seen) (ts : List Seen) → is_piece p t ≡ b
+    → is_end (past ps (taken b ts)) ≡ true → Fits p t × (is_end (past ps (Some ts)) ≡ true)
 by_test true p ps t ts e h = (fits p t e, h)
 by_test false p ps t ts e h = let end : is_end (past ps None) ≡ false = ap is_end (past_none ps) in cc
 
 -- the first piece is the first token
-first_fits : (p : Piece) (ps : List Piece) (t : Seen) (ts : List Seen) → is_end (past (p ∷ ps) (Some (t ∷ ts))) ≡ true → Fits p t × (is_end (past ps (Some ts)) ≡ true)
+first_fits : (p : Piece) (ps : List Piece) (t : Seen) (ts : List Seen) → is_end (past (p ∷ ps) (Some (t ∷ ts))) ≡ true
+    → Fits p t × (is_end (past ps (Some ts)) ≡ true)
 unfolding past
 first_fits p ps t ts h = by_test (is_piece p t) p ps t ts refl h
 
@@ -85,7 +88,8 @@ unfolding past
 all_spelled [] n h = refl
 all_spelled (t ∷ ts) n h = cc
 
-forms : (ps : List Piece) (n : ℕ) (tokens : List Token) → is_end (past ps (Some (seen_from n tokens))) ≡ true → HaveForms ps
+forms : (ps : List Piece) (n : ℕ) (tokens : List Token) → is_end (past ps (Some (seen_from n tokens))) ≡ true
+    → HaveForms ps
 forms [] n tokens h = tt
 forms (p ∷ ps) n [] h = absurd (no_more p ps h)
 forms (p ∷ ps) n (t ∷ ts) h =
@@ -94,18 +98,21 @@ forms (p ∷ ps) n (t ∷ ts) h =
       forms ps (n + 1) ts first.1,
     )
 
-numbers : (ps : List Piece) (n : ℕ) (tokens : List Token) → is_end (past ps (Some (seen_from n tokens))) ≡ true → AreNumbered n ps
+numbers : (ps : List Piece) (n : ℕ) (tokens : List Token) → is_end (past ps (Some (seen_from n tokens))) ≡ true
+    → AreNumbered n ps
 numbers [] n tokens h = tt
 numbers (p ∷ ps) n [] h = absurd (no_more p ps h)
 numbers (p ∷ ps) n (t ∷ ts) h =
     let first = first_fits p ps _ (seen_from (n + 1) ts) h in
     (numbered p.token n (parts_of t) first.0.token, numbers ps (n + 1) ts first.1)
   where
-    numbered : (token : Option (ℕ × TokenParts)) (n : ℕ) (seen : TokenParts) → is_kept token (n, seen) ≡ true → IsNumbered n token
+    numbered : (token : Option (ℕ × TokenParts)) (n : ℕ) (seen : TokenParts) → is_kept token (n, seen) ≡ true
+        → IsNumbered n token
     numbered None n seen h = tt
     numbered (Some k) n seen h = eqb-true k.0 n (and_parts (nat_eq k.0 n) (are_same k.1 seen) h).0
 
-lengths : (ps : List Piece) (n : ℕ) (tokens : List Token) → is_end (past ps (Some (seen_from n tokens))) ≡ true → length ps ≡ length tokens
+lengths : (ps : List Piece) (n : ℕ) (tokens : List Token) → is_end (past ps (Some (seen_from n tokens))) ≡ true
+    → length ps ≡ length tokens
 lengths [] n tokens h = sym (all_spelled tokens n h)
 lengths (p ∷ ps) n [] h = absurd (no_more p ps h)
 lengths (p ∷ ps) n (t ∷ ts) h = ap suc (lengths ps (n + 1) ts (first_fits p ps _ (seen_from (n + 1) ts) h).1)
@@ -131,7 +138,8 @@ pub HaveForms-append : (ps qs : List Piece) → HaveForms (ps ++ qs) → HaveFor
 HaveForms-append [] qs h = (tt, h)
 HaveForms-append (p ∷ ps) qs h = let parts = HaveForms-append ps qs h.1 in ((h.0, parts.0), parts.1)
 
-pub AreNumbered-append : (ps qs : List Piece) (n : ℕ) → AreNumbered n (ps ++ qs) → AreNumbered n ps × AreNumbered (n + length ps) qs
+pub AreNumbered-append : (ps qs : List Piece) (n : ℕ) → AreNumbered n (ps ++ qs)
+    → AreNumbered n ps × AreNumbered (n + length ps) qs
 AreNumbered-append [] qs n h = (tt, rw add-zero h)
 AreNumbered-append (p ∷ ps) qs n h =
     let parts = AreNumbered-append ps qs (n + 1) h.1 in
@@ -174,7 +182,8 @@ unfolding kept
 kept_number kind text l n h = h.0
 
 -- the semicolon of a constant stands behind its identifier, `=` and its value
-pub const_end : (c : Const) (n : ℕ) → AreNumbered n (const_yield c) → n + length (const_yield c) ≡ c.identifier.number + 2 + length (const_expr_yield c.value)
+pub const_end : (c : Const) (n : ℕ) → AreNumbered n (const_yield c)
+    → n + length (const_yield c) ≡ c.identifier.number + 2 + length (const_expr_yield c.value)
 unfolding kept piece
 const_end c n h =
     let front = keyword (codes "const") ++ const_type_yield c.const_type in
@@ -184,4 +193,10 @@ const_end c n h =
     let without_mark = AreNumbered-append named (mark (codes "=")) n without_value.0 in
     let placed = AreNumbered-append front (identifier c.identifier) n without_mark.0 in
     let number = kept_number Ident c.identifier.token.text.now c.identifier (n + length front) placed.1 in
-    omega (arith, number, length-append equal (const_expr_yield c.value), length-append named (mark (codes "=")), length-append front (identifier c.identifier))
+    omega (
+      arith,
+      number,
+      length-append equal (const_expr_yield c.value),
+      length-append named (mark (codes "=")),
+      length-append front (identifier c.identifier),
+    )

@@ -52,15 +52,22 @@ unfolding kept
 path_length p =
     let behind = flat_map (λ l. mark (codes "::") ++ identifier l) p.rest.items in
     length-append (optional root_yield p.root ++ identifier p.first) behind
-    ∙ omega (arith, length-append (optional root_yield p.root) (identifier p.first), root_length p.root, rest_length p.rest.items)
+    ∙ omega (
+      arith,
+      length-append (optional root_yield p.root) (identifier p.first),
+      root_length p.root,
+      rest_length p.rest.items,
+    )
 
-pub name_length : (name : ScopedName) → length (name_yield name) ≡ cond (is_rooted name) 1 0 + 1 + 2 * length (name_rest name)
+pub name_length : (name : ScopedName) → length (name_yield name)
+    ≡ cond (is_rooted name) 1 0 + 1 + 2 * length (name_rest name)
 unfolding kept
 name_length (Plain l) = refl
 name_length (Scoped p) = path_length p.value
 
 -- a number, a character or a boolean
-pub one_length : (e : Expr) → ((l : Leaf) × (e ≡ Number l)) ⊎ (((l : Leaf) × (e ≡ Character l)) ⊎ ((b : Bool) × (l : Leaf) × (e ≡ Boolean b l))) → 1 ≡ length (expr_yield e)
+pub one_length : (e : Expr) → ((l : Leaf) × (e ≡ Number l))
+    ⊎ (((l : Leaf) × (e ≡ Character l)) ⊎ ((b : Bool) × (l : Leaf) × (e ≡ Boolean b l))) → 1 ≡ length (expr_yield e)
 unfolding kept
 one_length e (inl (l, is)) = sym (ap (λ x. length (expr_yield x)) is)
 one_length e (inr (inl (l, is))) = sym (ap (λ x. length (expr_yield x)) is)
@@ -75,22 +82,30 @@ pub text_length : (ls : Box (Listed Leaf) Global) → length (expr_yield (Text l
 unfolding kept
 text_length ls = omega (arith, texts_length ls.value.rest.items)
 
-pub parenthesized_length : (paren : Leaf) (inner : Box Expr Global) → length (expr_yield (Parenthesized paren inner)) ≡ 2 + length (expr_yield inner.value)
+pub parenthesized_length : (paren : Leaf) (inner : Box Expr Global)
+    → length (expr_yield (Parenthesized paren inner)) ≡ 2 + length (expr_yield inner.value)
 unfolding kept piece
 parenthesized_length paren inner = omega (arith, length-append (expr_yield inner.value) (mark (codes ")")))
 
-pub signed_length : (l : Leaf) (sign : Sign) (operand : Box Expr Global) → length (expr_yield (Signed l sign operand)) ≡ 1 + length (expr_yield operand.value)
+pub signed_length : (l : Leaf) (sign : Sign) (operand : Box Expr Global)
+    → length (expr_yield (Signed l sign operand)) ≡ 1 + length (expr_yield operand.value)
 unfolding kept
 signed_length l sign operand = omega arith
 
-pub chain_length : (first : Box Expr Global) (rest : Vec Operand Global) → length (expr_yield (Chain first rest)) ≡ length (expr_yield first.value) + length (flat_map operand_yield rest.items)
-chain_length first rest = ap length (chain_yield first rest) ∙ length-append (expr_yield first.value) (flat_map operand_yield rest.items)
+pub chain_length : (first : Box Expr Global) (rest : Vec Operand Global)
+    → length (expr_yield (Chain first rest))
+    ≡ length (expr_yield first.value) + length (flat_map operand_yield rest.items)
+chain_length first rest = ap length (chain_yield first rest)
+    ∙ length-append (expr_yield first.value) (flat_map operand_yield rest.items)
 
 -- the operands from the k-th on
-pub operands_from : (xs : List Operand) (k : ℕ) (x : Operand) → k < length xs → get_or xs k x ≡ x → length (flat_map operand_yield (drop k xs)) ≡ length (operator_yield x.operator) + length (expr_yield x.operand) + length (flat_map operand_yield (drop (k + 1) xs))
+pub operands_from : (xs : List Operand) (k : ℕ) (x : Operand) → k < length xs → get_or xs k x ≡ x
+    → length (flat_map operand_yield (drop k xs)) ≡ length (operator_yield x.operator) + length (expr_yield x.operand)
+    + length (flat_map operand_yield (drop (k + 1) xs))
 operands_from xs k x lt here =
     let next : suc k ≡ k + 1 = omega arith in
-    let split : drop k xs ≡ x ∷ drop (k + 1) xs = drop-cons xs k x lt ∙ ap (λ y. y ∷ drop (suc k) xs) here ∙ ap (λ j. x ∷ drop j xs) next in
+    let split : drop k xs ≡ x ∷ drop (k + 1) xs = drop-cons xs k x lt ∙ ap (λ y. y ∷ drop (suc k) xs) here
+    ∙ ap (λ j. x ∷ drop j xs) next in
     ap (λ ys. length (flat_map operand_yield ys)) split
     ∙ length-append (operand_yield x) (flat_map operand_yield (drop (k + 1) xs))
     ∙ omega (arith, length-append (operator_yield x.operator) (expr_yield x.operand))

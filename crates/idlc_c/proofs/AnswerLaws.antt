@@ -23,7 +23,8 @@ run_none runs.TapeLeft e s = s
 run_none runs.NoMemory e s = absurd (omega (arith, e))
 
 -- a number of 60 and more says that there is no value
-pub none_of : {A : Type 0} (U : Type 0) (L : ℕ → Type 0) (V : Type 0) (answer : Result A Refusal) → 60 ≤ number_of_answer answer → IfErr answer (RefusesValue U L V) → V
+pub none_of : {A : Type 0} (U : Type 0) (L : ℕ → Type 0) (V : Type 0) (answer : Result A Refusal)
+    → 60 ≤ number_of_answer answer → IfErr answer (RefusesValue U L V) → V
 none_of U L V (Ok n) e s = absurd (omega (arith, e))
 none_of U L V (Err NoMemory) e s = absurd (omega (arith, e))
 none_of U L V (Err NotNamed) e s = absurd (omega (arith, e))

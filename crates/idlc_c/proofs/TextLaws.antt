@@ -89,7 +89,8 @@ module _ (U : Type 0) (L : ℕ → Type 0) (V W : Type 0) where
   of_text (Err (NotRight fault)) s = absurd s
 
 -- with a lower number no place is told
-pub untold : (answer : Result ℕ Refusal) (old : SourcePlace) → number_of_answer answer < 110 → place_told answer old ≡ old
+pub untold : (answer : Result ℕ Refusal) (old : SourcePlace) → number_of_answer answer < 110
+    → place_told answer old ≡ old
 untold (Ok n) old few = refl
 untold (Err NoMemory) old few = refl
 untold (Err NotNamed) old few = refl

@@ -1,7 +1,7 @@
 //! The column at which an IDL text is refused.
 
-use diagnostic_views::{Spot, known_of};
 use diagnostic_views::source_places::line_start;
+use diagnostic_views::{Spot, known_of};
 use std::alloc::Global;
 
 /// The column of the first fault, which is in this line: it counts from 1, in octets. 0 where it isn't known,

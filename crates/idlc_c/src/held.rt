@@ -4,12 +4,12 @@ ghost use Rattle.std.specs.Prelude.{◌≡◌, [], IfOk};
 ghost use Rattle.std.specs.Arc.{arc_value};
 
 use giop::Giop;
-use type_model::part_names::PartNames;
 use position_checker::Accepted;
 use program_runner::Room;
 use std::alloc::{AllocError, Global};
 use std::marker::Model;
 use std::sync::Arc;
+use type_model::part_names::PartNames;
 
 /// A table that was accepted, and the names of the parts of its types, where these are known.
 #[derive(Drop)]

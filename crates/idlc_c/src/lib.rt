@@ -33,12 +33,12 @@ use crate::marshal::order;
 use crate::messages::{buffer_number, message_told};
 use crate::refusal::{Refusal, done, told, told_at};
 use crate::source_fault::SourceFault;
+use giop::giop_buffers;
 pub use giop::giop_buffers::MessageFront;
 use giop::giop_buffers::RequestHead;
 pub use handle::Handle;
 pub use refusal::RefusalPlace;
 pub use source_place::SourcePlace;
-use giop::giop_buffers;
 use std::alloc::Global;
 use std::mem;
 

@@ -11,9 +11,8 @@ ghost use Rattle.idlc_c.specs.MessageAnswers.{IsNoReplyBy, IsReplyBy, RefusesMes
 
 use crate::held::Held;
 use crate::marshal::order;
-use giop::giop_buffers;
-use giop::{GiopFault, ReplyStatus};
 use giop::giop_buffers::{BufferFault, ReplyHead, RequestHead};
+use giop::{GiopFault, ReplyStatus, giop_buffers};
 use std::alloc::Global;
 
 #[derive(Clone, Copy)]

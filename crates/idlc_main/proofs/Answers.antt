@@ -20,9 +20,12 @@ module _ (Reads : Passing) (ask : Ask) (result : Result Answer Fault) where
 
   pub answers : (task : Task) → ask_of task ≡ Some ask
       → ((asked : ValueTask) → task ≡ tasks.Value asked → IsAnswer Reads (Value (value_ask_of asked)) result)
-      → ((asked : ReferenceTask) → task ≡ tasks.Reference asked → IsAnswer Reads (Reference (reference_ask_of asked)) result)
-      → ((word : Option (Bor (List ℕ))) → task ≡ tasks.Explain word → IsAnswer Reads (Explanation (option_map (λ text. text.now) word)) result)
-      → ((word : Bor (List ℕ)) → task ≡ tasks.Describe word → IsAnswer Reads (Description word.now) result) → IsAnswer Reads ask result
+      → ((asked : ReferenceTask) → task ≡ tasks.Reference asked
+      → IsAnswer Reads (Reference (reference_ask_of asked)) result)
+      → ((word : Option (Bor (List ℕ))) → task ≡ tasks.Explain word
+      → IsAnswer Reads (Explanation (option_map (λ text. text.now) word)) result)
+      → ((word : Bor (List ℕ)) → task ≡ tasks.Describe word → IsAnswer Reads (Description word.now) result)
+      → IsAnswer Reads ask result
   answers (tasks.Value asked) is value reference explanation description = of_same _ is (value asked refl)
   answers (tasks.Reference asked) is value reference explanation description = of_same _ is (reference asked refl)
   answers (tasks.Explain word) is value reference explanation description = of_same _ is (explanation word refl)

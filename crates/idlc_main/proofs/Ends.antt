@@ -27,13 +27,15 @@ statuses (refusals.Unwritten file) = inr (omega arith)
 statuses refusals.NoMemory = inr (omega arith)
 statuses refusal = inl refl
 
-source_statuses : (refusal : CompileRefusal) → (status_of (fault_of_source refusal) ≡ 1) ⊎ (3 ≤ status_of (fault_of_source refusal))
+source_statuses : (refusal : CompileRefusal) → (status_of (fault_of_source refusal) ≡ 1)
+    ⊎ (3 ≤ status_of (fault_of_source refusal))
 source_statuses (sources.Fault text) = inl refl
 source_statuses sources.TooLong = inl refl
 source_statuses sources.NoMemory = inr (omega arith)
 
 -- so is the fault of a table that a word names
-named_statuses : (named : NamedFault) (fault : Fault) → IsOfNamed named fault → (status_of fault ≡ 1) ⊎ (3 ≤ status_of fault)
+named_statuses : (named : NamedFault) (fault : Fault) → IsOfNamed named fault → (status_of fault ≡ 1)
+    ⊎ (3 ≤ status_of fault)
 named_statuses (tables.Refused refusal) fault is =
     subst (λ (f : Fault). (status_of f ≡ 1) ⊎ (3 ≤ status_of f)) (sym is) (statuses refusal)
 named_statuses (tables.Unsaid text) fault is =
@@ -44,7 +46,8 @@ named_statuses (tables.NotCompiled refusal) fault is =
 
 module _ (Reads : Passing) (ask : Ask) (old new : Option (List ℕ)) where
   -- the input was refused
-  ends_refused : (fault : Fault) (status : ℕ) → status ≡ 1 → status_of fault ≡ 1 → IsFaultOf Reads ask fault → IsEndOf Reads ask status old new
+  ends_refused : (fault : Fault) (status : ℕ) → status ≡ 1 → status_of fault ≡ 1 → IsFaultOf Reads ask fault
+      → IsEndOf Reads ask status old new
   ends_refused fault status is_1 of_1 why = record {
     done = λ is_0. absurd (omega arith);
     refused = λ _. (fault, of_1, why);
@@ -68,7 +71,8 @@ module _ (Reads : Passing) (ask : Ask) (old new : Option (List ℕ)) where
   }
 
   -- standard output got the answer, or couldn't be written
-  pub ends_said : (answer : Answer) (status : ℕ) → (status ≡ 0) ⊎ (status ≡ 3) → (status ≡ 0 → Appends old new (string_bytes answer.text))
+  pub ends_said : (answer : Answer) (status : ℕ) → (status ≡ 0) ⊎ (status ≡ 3)
+      → (status ≡ 0 → Appends old new (string_bytes answer.text))
       → IsAnswer Reads ask (Ok answer) → IsEndOf Reads ask status old new
   ends_said answer status (inl is_0) said is = record {
     done = λ _. record { line = string_bytes answer.text; printed = said is_0; is_line = is.line };
@@ -78,7 +82,8 @@ module _ (Reads : Passing) (ask : Ask) (old new : Option (List ℕ)) where
   ends_said answer status (inr is_3) said is = ends_else status (omega arith)
 
   -- there was no memory to read the words
-  pub ends_unread : (mistake : Mistake) (fault : Fault) (status : ℕ) → mistake ≡ mistakes.NoMemory → fault ≡ fault_of_words mistake → status ≡ status_of fault
+  pub ends_unread : (mistake : Mistake) (fault : Fault) (status : ℕ) → mistake ≡ mistakes.NoMemory
+      → fault ≡ fault_of_words mistake → status ≡ status_of fault
       → IsEndOf Reads ask status old new
   ends_unread mistake fault status no_memory from is =
       let same : fault ≡ NoMemory = subst (λ (m : Mistake). fault ≡ fault_of_words m) no_memory from in
@@ -86,15 +91,18 @@ module _ (Reads : Passing) (ask : Ask) (old new : Option (List ℕ)) where
       ends_else status (omega arith)
 
   -- there was a fault of the table, or of what was asked of it
-  ends_named : (fault : Fault) (status : ℕ) → status ≡ status_of fault → (status_of fault ≡ 1) ⊎ (3 ≤ status_of fault) → IsFaultOf Reads ask fault
+  ends_named : (fault : Fault) (status : ℕ) → status ≡ status_of fault → (status_of fault ≡ 1) ⊎ (3 ≤ status_of fault)
+      → IsFaultOf Reads ask fault
       → IsEndOf Reads ask status old new
   ends_named fault status is (inl one) why = ends_refused fault status (is ∙ one) one why
   ends_named fault status is (inr above) why = ends_else status (subst (λ (n : ℕ). 3 ≤ n) (sym is) above)
 
 -- no refusal is meant, or memory was wanted
-ends_meant : (Reads : Passing) (word : Option (List ℕ)) (old new : Option (List ℕ)) (fault : Fault) (status : ℕ) → status ≡ status_of fault
+ends_meant : (Reads : Passing) (word : Option (List ℕ)) (old new : Option (List ℕ)) (fault : Fault) (status : ℕ)
+    → status ≡ status_of fault
     → IsExplanationFault word fault → IsEndOf Reads (Explanation word) status old new
-ends_meant Reads word old new (NoRefusal other) status is told = ends_strange Reads (Explanation word) old new status is told.1
+ends_meant Reads word old new (NoRefusal other) status is told =
+    ends_strange Reads (Explanation word) old new status is told.1
 ends_meant Reads word old new NoMemory status is told = ends_else Reads (Explanation word) old new status (omega arith)
 ends_meant Reads word old new (Words mistake) status is told = absurd told
 ends_meant Reads word old new NotText status is told = absurd told
@@ -118,14 +126,16 @@ spelling_statuses spellings.BadCorbaloc = inl refl
 spelling_statuses spellings.NoMemory = inr (omega arith)
 
 -- there is no reference, or memory was wanted
-ends_described : (Reads : Passing) (word : List ℕ) (old new : Option (List ℕ)) (fault : Fault) (status : ℕ) → status ≡ status_of fault
+ends_described : (Reads : Passing) (word : List ℕ) (old new : Option (List ℕ)) (fault : Fault) (status : ℕ)
+    → status ≡ status_of fault
     → IsDescriptionFault Reads word fault → IsEndOf Reads (Description word) status old new
 ends_described Reads word old new (Refused refusal) status is told =
     ends_named Reads (Description word) old new (Refused refusal) status is (statuses refusal) told
 ends_described Reads word old new (Unsaid text) status is told = absurd told
 ends_described Reads word old new (NotSpelled fault) status is told =
     ends_named Reads (Description word) old new (NotSpelled fault) status is (spelling_statuses fault) told
-ends_described Reads word old new NoMemory status is told = ends_else Reads (Description word) old new status (omega arith)
+ends_described Reads word old new NoMemory status is told =
+    ends_else Reads (Description word) old new status (omega arith)
 ends_described Reads word old new (NoRefusal other) status is told = absurd told
 ends_described Reads word old new (Words mistake) status is told = absurd told
 ends_described Reads word old new NotText status is told = absurd told
@@ -141,7 +151,8 @@ ends_described Reads word old new Socket status is told = absurd told
 ends_described Reads word old new Unwritten status is told = absurd told
 
 -- there was a fault
-pub ends : (Reads : Passing) (ask : Ask) (old new : Option (List ℕ)) (fault : Fault) (status : ℕ) → status ≡ status_of fault → IsFaultOf Reads ask fault
+pub ends : (Reads : Passing) (ask : Ask) (old new : Option (List ℕ)) (fault : Fault) (status : ℕ)
+    → status ≡ status_of fault → IsFaultOf Reads ask fault
     → IsEndOf Reads ask status old new
 ends Reads (Value value) old new fault status is told =
     ends_named Reads (Value value) old new fault status is (named_statuses told.named fault told.is) told

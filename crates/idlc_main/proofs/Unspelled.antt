@@ -8,7 +8,8 @@ use Rattle.command_tables.specs.Named.{Passing}
 use Rattle.command_files.specs.Values.{IsTextFor}
 use Rattle.idlc_main.specs.Descriptions.{IsNoReference}
 
-pub no_reference : (Reads : Passing) (word whole text : List ℕ) (fault : SpellingFault) → IsTextFor Reads word whole → IsTrimAscii whole text
+pub no_reference : (Reads : Passing) (word whole text : List ℕ) (fault : SpellingFault) → IsTextFor Reads word whole
+    → IsTrimAscii whole text
     → RefusesSpelling fault text → IsNoReference Reads word fault
 no_reference Reads word whole text BadIor stands bare none =
     inl (record { text = text; is = record { whole = whole; stands = stands; bare = bare }; none = none.1 })

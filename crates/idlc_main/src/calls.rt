@@ -9,16 +9,16 @@ use crate::listener::Listener;
 use crate::times::Times;
 use crate::told::named_fault;
 use call_commands::{CallRefusal, Ending, TextCall, Types, call_text};
-use command_words::CallTask;
 use call_sockets::Dialler;
-use giop::Giop;
 use command_files::{Loaded, NamedFault, load, source_in, text_in};
+use command_tables::WholeFiles;
+use command_words::CallTask;
+use giop::Giop;
 use giop::reply_bodies::SystemException;
 use reference_listing::spelled_references::read_reference;
 use std::alloc::{AllocError, Global};
 use std::net::Net;
 use std::time::Clock;
-use command_tables::WholeFiles;
 
 /// The text of a call that has no arguments.
 const NO_ARGUMENTS: &str = "[]";

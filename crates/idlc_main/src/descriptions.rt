@@ -10,10 +10,10 @@ ghost use Rattle.idlc_main.specs.Fault.{IsTold};
 
 use crate::fault::Fault;
 use crate::told::Answer;
-use giop_types::GiopTypes;
 use command_files::{NamedFault, source_in, text_in};
-use reference_listing::spelled_references::{SpellingFault, described_reference};
 use command_tables::WholeFiles;
+use giop_types::GiopTypes;
+use reference_listing::spelled_references::{SpellingFault, described_reference};
 
 /// The lines of the reference that a text spells, which a word stands for, by the routines of messages.
 fn described_by<'a, R: WholeFiles + AllocGlobal>(

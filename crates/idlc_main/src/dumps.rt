@@ -7,13 +7,13 @@ ghost use Rattle.idlc_main.specs.Fault.{status_of};
 use crate::fault::Fault;
 use crate::listener::Listener;
 use crate::told::named_fault;
-use command_words::DumpTask;
-use giop_words::dump_commands::{CaptureFault, CaptureFiles, CaptureNames, dump_capture};
-use giop_dumps::DumpFault;
 use command_files::{Loaded, load};
+use command_tables::{Refusal, WholeFiles};
+use command_words::DumpTask;
+use giop_dumps::DumpFault;
+use giop_words::dump_commands::{CaptureFault, CaptureFiles, CaptureNames, dump_capture};
 use std::io::Write;
 use std::time::Clock;
-use command_tables::{Refusal, WholeFiles};
 
 /// The fault of a capture that was told up to there.
 fn cut_short(fault: DumpFault) -> Fault<'static>

@@ -4,17 +4,17 @@ ghost use Rattle.std.specs.Prelude.{◌≡◌, ◌≤◌};
 ghost use Rattle.idlc_main.specs.Fault.{fault_of_named, fault_of_service, fault_of_source, fault_of_words, fault_of_call, status_of_refusal, status_of_spelling};
 ghost use Rattle.idlc_main.specs.declared.fault.Fault.TheVariants.{NoMemory, NotSpelled, Refused};
 
-use call_commands::CallRefusal;
-use command_words::Mistake;
-use call_client::Cause;
-use idl_compiler::CompileRefusal;
-use giop_dumps::DumpFault;
-use command_files::NamedFault;
 use broker_sockets::ServeFault;
+use call_client::Cause;
+use call_commands::CallRefusal;
+use command_files::NamedFault;
+use command_tables::Refusal;
+use command_words::Mistake;
+use giop_dumps::DumpFault;
+use idl_compiler::CompileRefusal;
 use reference_listing::spelled_references::SpellingFault;
 use std::alloc::AllocError;
 use std::fmt;
-use command_tables::Refusal;
 use thiserror::Error;
 use value_text::Refusal as TextFault;
 

@@ -1,9 +1,9 @@
 //! What else is known of a fault.
 
 use crate::fault::Fault;
+use command_tables::{Refusal, WholeFiles, read_file};
 use diagnostic_views::refusal_views::{number_in, refusal_view, table_known};
 use std::alloc::AllocError;
-use command_tables::{Refusal, WholeFiles, read_file};
 
 /// What is known of the table of a name, which was refused. Its file is read once more.
 fn known_of_table<R: WholeFiles + AllocGlobal>(

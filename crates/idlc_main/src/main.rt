@@ -32,11 +32,12 @@ use crate::listener::Listener;
 use crate::service::served;
 use crate::tasks::{done, table_in};
 use crate::told::Answer;
-use call_commands::ExceptionLine;
-use command_words::{CallTask, DumpTask, Mistake, Said, explains, parse};
-use giop_words::dump_commands::CaptureFiles;
-use diagnostic_views::Look;
 use broker_sockets::Totals;
+use call_commands::ExceptionLine;
+use command_tables::WholeFiles;
+use command_words::{CallTask, DumpTask, Mistake, Said, explains, parse};
+use diagnostic_views::Look;
+use giop_words::dump_commands::CaptureFiles;
 use std::alloc::{AllocError, Global};
 use std::env::VarError;
 use std::io::IsTerminal;
@@ -45,7 +46,6 @@ use std::process::ExitCode;
 use std::rt::Env;
 use std::time::Clock;
 use std::{env, io};
-use command_tables::WholeFiles;
 
 /// The status of a run that did what was asked for, help included.
 const DONE: u8 = 0;

@@ -10,13 +10,13 @@ ghost use Rattle.idlc_main.specs.Service.{IsServed};
 use crate::fault::Fault;
 use crate::listener::Listener;
 use crate::told::named_fault;
-use command_words::Service;
-use command_files::load;
 use broker_sockets::{ServeOptions, Totals, serve};
+use command_files::load;
+use command_tables::WholeFiles;
+use command_words::Service;
 use std::io::Write;
 use std::net::Net;
 use std::time::Clock;
-use command_tables::WholeFiles;
 
 /// Serves calls by a table, which is checked before anything listens, and tells how much was served.
 pub fn served<'a, R: WholeFiles + Net + Clock + Eprint + AllocGlobal, O: Write>(

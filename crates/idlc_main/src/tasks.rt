@@ -16,11 +16,11 @@ use crate::descriptions::described;
 use crate::fault::Fault;
 use crate::listener::Listener;
 use crate::told::{Answer, Notice, named_fault, source_fault};
+use command_files::{NamedFault, accepted_of, listing_of, reference_of, value_line};
+use command_tables::{WholeFiles, read_file, upgrade, write_file};
 use command_words::Task;
 use diagnostic_texts::{explanations, headings};
 use idl_compiler::{CompiledFile, compile_file};
-use command_files::{NamedFault, accepted_of, listing_of, reference_of, value_line};
-use command_tables::{WholeFiles, read_file, upgrade, write_file};
 
 /// The answer that is a line of the table of a name.
 fn lined<'a, R: WholeFiles + AllocGlobal>(

@@ -5,12 +5,12 @@ ghost use Rattle.idlc_main.specs.Fault.{IsOfNamed, IsOfSource};
 
 use crate::fault::Fault;
 use crate::listener::Listener;
+use command_files::NamedFault;
+use command_tables::{WholeFiles, read_file};
 use diagnostic_views::view;
 use idl_compiler::CompileRefusal;
-use command_files::NamedFault;
 use std::alloc::Global;
 use std::fmt::{self, Formatter};
-use command_tables::{WholeFiles, read_file};
 
 /// What else is told on standard error, as the line behind `idlc: `.
 #[derive(Clone, Copy)]

@@ -42,7 +42,8 @@ is_kept acting served c others before octets answer closes now stream =
 
 put_there : {S : Type 0} (acting : Acting S) (served : Served) (c : ℕ) (others : List (ℕ × Stream)) (before : S)
     (octets answer : List ℕ) (closes : Bool) (now : World S Stream) (other : Stream)
-    → AnsweredStream acting served c others before octets answer closes now → put c other now.there ≡ others ++ (c, other) ∷ []
+    → AnsweredStream acting served c others before octets answer closes now
+    → put c other now.there ≡ others ++ (c, other) ∷ []
 put_there acting served c others before octets answer closes now other stream =
     ap (put c other) stream.there
     ∙ put_split c others (kept_or_shut rests closes (cut None octets).left) other [] stream.absent
@@ -57,12 +58,15 @@ stream_on {S} acting served c others before octets answer piece more now after s
     let kept : a.kept ≡ left = kept_is acting served c others before octets answer false now a.kept stream a.there in
     let whole = in_pieces None octets piece in
     let second : Serves acting served (cut_behind left piece).raws now.servant more a.closes a.servant =
-    subst (λ (k : Stream). Serves acting served (cut_behind k piece).raws now.servant more a.closes a.servant) kept a.served in
-    let both = serves_then acting served (cut None octets).raws (cut_behind left piece).raws before now.servant a.servant answer
+    subst (λ (k : Stream). Serves acting served (cut_behind k piece).raws now.servant more a.closes a.servant) kept
+    a.served in
+    let both = serves_then acting served (cut None octets).raws (cut_behind left piece).raws before now.servant
+    a.servant answer
     more a.closes stream.serves second in
     record {
       absent = stream.absent;
-      serves = subst (λ (s : S). Serves acting served (cut None (octets ++ piece)).raws before (answer ++ more) a.closes s)
+      serves = subst (λ (s : S). Serves acting served (cut None (octets ++ piece)).raws before (answer ++ more) a.closes
+          s)
           (sym (ap (λ (w : World S Stream). w.servant) a.now))
           (subst (λ (raws : List Raw). Serves acting served raws before (answer ++ more) a.closes a.servant)
           (sym (ap (λ (k : Cut). k.raws) whole)) both);
@@ -88,7 +92,8 @@ given_up {S} acting served c others before octets answer piece silence j now aft
       j = j;
       moves = subst (λ (s : S). Moves acting served (take j (rests.heard left piece).raws) now.servant s)
           (sym (ap (λ (w : World S Stream). w.servant) a.now))
-          (subst (λ (k : Stream). Moves acting served (take j (rests.heard k piece).raws) now.servant a.servant) kept a.moved);
+          (subst (λ (k : Stream). Moves acting served (take j (rests.heard k piece).raws) now.servant a.servant) kept
+          a.moved);
       there = ap (λ (w : World S Stream). w.there) a.now
           ∙ put_there acting served c others before octets answer false now Closed stream;
     }
@@ -114,7 +119,8 @@ pub talked : {S : Type 0} (acting : Acting S) (served : Served) (c : ℕ) (befor
 talked {S} acting served c before now after octets answer silence closes stream l = record {
   serves = subst (λ (s : S). Serves acting served (cut None octets).raws before.servant answer closes s)
       (sym (left_servant c now after silence l)) stream.serves;
-  there = left_there c before.there (kept_or_shut rests closes (cut None octets).left) now after silence stream.absent stream.there l;
+  there = left_there c before.there (kept_or_shut rests closes (cut None octets).left) now after silence stream.absent
+      stream.there l;
 }
 
 pub talked_in_part : {S : Type 0} (acting : Acting S) (served : Served) (c : ℕ) (before now after : World S Stream)

@@ -24,12 +24,14 @@ given_there : {S : Type 0} (acting : Acting S) (served : Served) (c : ℕ) (othe
     → IsThere c w.there
 given_there {S} acting served c others before octets answer more w g = record {
   kept = Closed;
-  found = subst (λ (there : List (ℕ × Stream)). at c there ≡ Some Closed) (sym g.there) (at_split c others Closed [] g.absent);
+  found = subst (λ (there : List (ℕ × Stream)). at c there ≡ Some Closed) (sym g.there)
+      (at_split c others Closed [] g.absent);
 }
 
 pub outcome_there : {S : Type 0} (acting : Acting S) (served : Served) (c : ℕ) (others : List (ℕ × Stream)) (before : S)
     (reads : ℕ) (from to : Ends) (result : Result (Unit {0}) StreamFault) (w : World S Stream)
-    → IsOutcome (running acting served c others before w) (running_in_part acting served c others before w) reads from result to
+    → IsOutcome (running acting served c others before w) (running_in_part acting served c others before w) reads from
+    result to
     → IsThere c w.there
 outcome_there acting served c others before reads from to (Ok done) w o =
     still_there acting served c others before o.octets o.answer o.closes w o.told
@@ -45,7 +47,8 @@ outcome_there acting served c others before reads from to (Err faults.ReadLimit)
 outcome_there acting served c others before reads from to (Err faults.TooMany) w o = absurd o
 
 -- an end isn't refused where the connection is there
-pub end_is_taken : {S : Type 0} (acting : Acting S) (served : Served) (c : ℕ) (fault : BrokerFault) (before after : World S Stream)
+pub end_is_taken : {S : Type 0} (acting : Acting S) (served : Served) (c : ℕ) (fault : BrokerFault)
+    (before after : World S Stream)
     → IsThere c before.there → IsRefused acting served before (Leaving c) fault after → ⊥
 end_is_taken acting served c broken.NoSuchConnection before after there r =
     let both : Some there.kept ≡ None = sym there.found ∙ r.0 in absurd (cc)
@@ -63,7 +66,8 @@ piece_is_heard acting served c octets broken.AlreadyThere before after other the
 piece_is_heard acting served c octets broken.NoMemory before after other there r = other refl
 piece_is_heard acting served c octets broken.TooMany before after other there r = r.0
 
-pub served_of : {S : Type 0} (acting : Acting S) (served : Served) (c reads : ℕ) (before begun now after : World S Stream)
+pub served_of : {S : Type 0} (acting : Acting S) (served : Served) (c reads : ℕ)
+    (before begun now after : World S Stream)
     (silence silent : List ℕ) (from to : Ends) (result : Result (Unit {0}) StreamFault)
     → Opens rests before c silence begun
     → IsOutcome (running acting served c before.there before.servant now)
@@ -82,33 +86,36 @@ served_of acting served c reads before begun now after silence silent from to (O
     finished = o.finished;
   };
 }
-served_of acting served c reads before begun now after silence silent from to (Err faults.AlreadyThere) opens o l = absurd o
-served_of acting served c reads before begun now after silence silent from to (Err faults.ReadFailed) opens o l = record {
-  absent = opens.absent;
-  room = opens.room;
-  outcome = record {
-    octets = o.octets;
-    answer = o.answer;
-    told = talked acting served c before now after o.octets o.answer silent false o.told l;
-    read = o.read;
-    wrote = o.wrote;
-    failed = o.failed;
-  };
-}
-served_of acting served c reads before begun now after silence silent from to (Err (faults.WriteFailed sent)) opens o l = record {
-  absent = opens.absent;
-  room = opens.room;
-  outcome = record {
-    octets = o.octets;
-    answer = o.answer;
-    closes = o.closes;
-    told = talked acting served c before now after o.octets o.answer silent o.closes o.told l;
-    read = o.read;
-    within = o.within;
-    wrote = o.wrote;
-    failed = o.failed;
-  };
-}
+served_of acting served c reads before begun now after silence silent from to (Err faults.AlreadyThere) opens o l =
+    absurd o
+served_of acting served c reads before begun now after silence silent from to (Err faults.ReadFailed) opens o l =
+    record {
+      absent = opens.absent;
+      room = opens.room;
+      outcome = record {
+        octets = o.octets;
+        answer = o.answer;
+        told = talked acting served c before now after o.octets o.answer silent false o.told l;
+        read = o.read;
+        wrote = o.wrote;
+        failed = o.failed;
+      };
+    }
+served_of acting served c reads before begun now after silence silent from to (Err (faults.WriteFailed sent)) opens o
+    l = record {
+      absent = opens.absent;
+      room = opens.room;
+      outcome = record {
+        octets = o.octets;
+        answer = o.answer;
+        closes = o.closes;
+        told = talked acting served c before now after o.octets o.answer silent o.closes o.told l;
+        read = o.read;
+        within = o.within;
+        wrote = o.wrote;
+        failed = o.failed;
+      };
+    }
 served_of acting served c reads before begun now after silence silent from to (Err faults.NoMemory) opens o l =
     inr (record {
       absent = opens.absent;
@@ -122,16 +129,17 @@ served_of acting served c reads before begun now after silence silent from to (E
         wrote = o.wrote;
       };
     })
-served_of acting served c reads before begun now after silence silent from to (Err faults.ReadLimit) opens o l = record {
-  absent = opens.absent;
-  room = opens.room;
-  outcome = record {
-    octets = o.octets;
-    answer = o.answer;
-    told = talked acting served c before now after o.octets o.answer silent false o.told l;
-    read = o.read;
-    wrote = o.wrote;
-    many = o.many;
-  };
-}
+served_of acting served c reads before begun now after silence silent from to (Err faults.ReadLimit) opens o l =
+    record {
+      absent = opens.absent;
+      room = opens.room;
+      outcome = record {
+        octets = o.octets;
+        answer = o.answer;
+        told = talked acting served c before now after o.octets o.answer silent false o.told l;
+        read = o.read;
+        wrote = o.wrote;
+        many = o.many;
+      };
+    }
 served_of acting served c reads before begun now after silence silent from to (Err faults.TooMany) opens o l = absurd o

@@ -49,7 +49,8 @@ distinct_to (object ∷ more) h =
 within_from : (count : ℕ) (objects : Objects) → list_all (λ object. nat_lt object.1 count) objects ≡ true
     → All (λ object. object.1 < count) objects
 within_from count objects e = λ k d lt.
-    ltb-true (slice_index_or objects k d).1 count (AllPass-from_list_all (λ object. nat_lt object.1 count) objects e k d lt)
+    ltb-true (slice_index_or objects k d).1 count
+    (AllPass-from_list_all (λ object. nat_lt object.1 count) objects e k d lt)
 
 within_to : (count : ℕ) (objects : Objects) → All (λ object. object.1 < count) objects
     → list_all (λ object. nat_lt object.1 count) objects ≡ true
@@ -72,14 +73,16 @@ fit_else count objects distinct d e = (
   λ h. d ∙ distinct_to objects h.distinct,
 )
 
-pub served_from : (model : Parts) (count : ℕ) (objects : Objects) → count ≡ length model.interfaces → AreFit count objects
+pub served_from : (model : Parts) (count : ℕ) (objects : Objects) → count ≡ length model.interfaces
+    → AreFit count objects
     → AreServed model objects
 served_from model count objects e h = record {
   distinct = h.distinct;
   within = subst (λ (n : ℕ). All (λ object. object.1 < n) objects) e h.within;
 }
 
-pub served_to : (model : Parts) (count : ℕ) (objects : Objects) → count ≡ length model.interfaces → AreServed model objects
+pub served_to : (model : Parts) (count : ℕ) (objects : Objects) → count ≡ length model.interfaces
+    → AreServed model objects
     → AreFit count objects
 served_to model count objects e h = record {
   distinct = h.distinct;

@@ -46,7 +46,8 @@ stopped_then acting served all mid before between after answer p q = record {
 }
 
 pub stopped_here : {S : Type 0} (acting : Acting S) (served : Served) (all left : Cut) (before after : S)
-    (answer : List ℕ) → Progress acting served all left before answer after → Stopped acting served all.raws before after
+    (answer : List ℕ) → Progress acting served all left before answer after
+    → Stopped acting served all.raws before after
 stopped_here acting served all left before after answer p = record {
   done = p.done;
   left = left.raws;
@@ -69,7 +70,8 @@ pub all_served : {S : Type 0} (acting : Acting S) (served : Served) (all : Cut) 
     → Serves acting served all.raws before answer false after
 all_served acting served all left before after answer none p =
     subst (λ (raws : List Raw). Serves acting served raws before answer false after)
-    (sym (ap (λ (c : Cut). c.raws) p.cut_is ∙ ap (λ (raws : List Raw). p.done ++ raws) none ∙ append-nil p.done)) p.serves
+    (sym (ap (λ (c : Cut). c.raws) p.cut_is ∙ ap (λ (raws : List Raw). p.done ++ raws) none ∙ append-nil p.done))
+    p.serves
 
 pub all_ended : {S : Type 0} (acting : Acting S) (served : Served) (all : List Raw) (before after : S)
     (answer : List ℕ) → Ended acting served all before answer after → Serves acting served all before answer true after

@@ -31,7 +31,8 @@ gives_start (Some left) = (left, refl, refl)
 
 -- ---- so far
 
-pub record Going {S : Type 0} (acting : Acting S) (served : Served) (c : ℕ) (others : List (ℕ × Stream)) (before : S) (start now : Ends) (sent count : ℕ) (w : World S Stream) : Type 0 where
+pub record Going {S : Type 0} (acting : Acting S) (served : Served) (c : ℕ) (others : List (ℕ × Stream)) (before : S)
+    (start now : Ends) (sent count : ℕ) (w : World S Stream) : Type 0 where
   pub octets : List ℕ
   pub answer : List ℕ
   pub stream : AnsweredStream acting served c others before octets answer false w
@@ -81,17 +82,21 @@ pub going_on : {S : Type 0} (acting : Acting S) (served : Served) (c : ℕ) (oth
     → Going acting served c others before start now sent count w → Gives now.left piece after.left → 0 < length piece
     → IsSent acting served c w piece now.written n shut w' after.written → shut ≡ false
     → Going acting served c others before start after (sent + n) (count + 1) w'
-going_on acting served c others before start now after sent count w w' piece n shut going gives some is unshut = record {
-  octets = going.octets ++ piece;
-  answer = going.answer ++ is.answer;
-  stream = open_still acting served c others before (going.octets ++ piece) (going.answer ++ is.answer) is.answers.closes shut w'
-      (stream_on acting served c others before going.octets going.answer piece is.answer w w' going.stream is.answers)
-      is.closed.1 unshut;
-  read = gives_then start.left now.left after.left going.octets piece going.read gives;
-  wrote = adds_then start.written now.written after.written going.answer is.answer going.wrote is.wrote;
-  sent_is = let so_far = going.sent_is in let more = is.count in omega (arith, so_far, more, length-append going.answer is.answer);
-  many = let m = going.many in omega (arith, m, some, length-append going.octets piece);
-}
+going_on acting served c others before start now after sent count w w' piece n shut going gives some is unshut =
+    record {
+      octets = going.octets ++ piece;
+      answer = going.answer ++ is.answer;
+      stream = open_still acting served c others before (going.octets ++ piece) (going.answer ++ is.answer)
+          is.answers.closes shut w'
+          (stream_on acting served c others before going.octets going.answer piece is.answer w w' going.stream
+          is.answers)
+          is.closed.1 unshut;
+      read = gives_then start.left now.left after.left going.octets piece going.read gives;
+      wrote = adds_then start.written now.written after.written going.answer is.answer going.wrote is.wrote;
+      sent_is = let so_far = going.sent_is in let more = is.count in
+          omega (arith, so_far, more, length-append going.answer is.answer);
+      many = let m = going.many in omega (arith, m, some, length-append going.octets piece);
+    }
 
 pub all_read : {S : Type 0} (acting : Acting S) (served : Served) (c : ℕ) (others : List (ℕ × Stream)) (before : S)
     (start now after : Ends) (sent count : ℕ) (w : World S Stream) (got : List ℕ)
@@ -128,7 +133,8 @@ all_said acting served c others before start now after sent count w w' piece n c
       wrote = adds_then start.written now.written after.written going.answer is.answer going.wrote is.wrote;
       finished = inl
           (same_kept (kept_or_shut rests is.answers.closes (cut None (going.octets ++ piece)).left) Closed
-          (sym (is_kept acting served c others before (going.octets ++ piece) (going.answer ++ is.answer) is.answers.closes w' stream)
+          (sym (is_kept acting served c others before (going.octets ++ piece) (going.answer ++ is.answer)
+          is.answers.closes w' stream)
           ∙ is.closed.0 shut));
     }
 
@@ -150,7 +156,8 @@ stuck acting served c others before start now after sent count n w w' piece goin
       octets = going.octets ++ piece;
       answer = going.answer ++ is.answer;
       closes = is.answers.closes;
-      told = stream_on acting served c others before going.octets going.answer piece is.answer w w' going.stream is.answers;
+      told = stream_on acting served c others before going.octets going.answer piece is.answer w w' going.stream
+          is.answers;
       read = gives_then start.left now.left after.left going.octets piece going.read gives;
       within = let m = is.within in omega (arith, so_far, m, length-append going.answer is.answer);
       wrote = subst (λ (xs : List ℕ). Adds start.written xs after.written)
@@ -175,7 +182,8 @@ unserved acting served c others before start now after sent count w w' piece goi
 
 pub unread : {S : Type 0} (acting : Acting S) (served : Served) (c : ℕ) (others : List (ℕ × Stream)) (before : S)
     (start now after : Ends) (sent count : ℕ) (w : World S Stream)
-    → Going acting served c others before start now sent count w → Gives now.left [] after.left → after.written ≡ now.written
+    → Going acting served c others before start now sent count w → Gives now.left [] after.left
+    → after.written ≡ now.written
     → after.unread ≡ true → Unread (λ o a k. AnsweredStream acting served c others before o a k w) start after
 unread acting served c others before start now after sent count w going same kept failed = record {
   octets = going.octets;

@@ -48,7 +48,8 @@ last_behind run octets head le =
     else placed run head (take n octets) (drop n octets) in
     last_if (breaks run head) (Broken BadFragment) (if nat_lt (length octets) n then More else there) tt
     (last_if (nat_lt (length octets) n) More there tt
-    (last_if (is_other run head (take n octets)) (Broken BadFragment) (placed run head (take n octets) (drop n octets)) tt
+    (last_if (is_other run head (take n octets)) (Broken BadFragment) (placed run head (take n octets) (drop n octets))
+    tt
     (last_placed run head (take n octets) (drop n octets) none)))
 
 none_cut : (n : ℕ) (run : Option (List ℕ)) (octets : List ℕ) → length octets ≤ 0 → (cut_within n run octets).raws ≡ []
@@ -115,7 +116,8 @@ last_head : (run : Option (List ℕ)) (octets : List ℕ) (said : Result Head Fr
 last_head run octets (Err fault) le = tt
 last_head run octets (Ok head) le = last_behind run octets head (omega (arith, le))
 
-last_rest : (run : Option (List ℕ)) (rest more : List ℕ) (said : Result Head FramingFault) → front_behind run rest said ≡ More
+last_rest : (run : Option (List ℕ)) (rest more : List ℕ) (said : Result Head FramingFault)
+    → front_behind run rest said ≡ More
     → length more ≤ max (min (wanted_by said (length rest)) 65536) 1
     → IsLast (front_behind run (rest ++ more) said)
 last_rest run rest more (Err fault) is le = tt
@@ -134,7 +136,8 @@ last_by run rest more true e is le =
 last_by run rest more false e is le =
     let same = head_longer rest more (ltb-false (length rest) 12 e) in
     last_if (nat_lt (length (rest ++ more)) 12) More (front_behind run (rest ++ more) (head_in (rest ++ more))) tt
-    (subst (λ said. IsLast (front_behind run (rest ++ more) said)) (sym same) (last_rest run rest more (head_in rest) is le))
+    (subst (λ said. IsLast (front_behind run (rest ++ more) said)) (sym same)
+    (last_rest run rest more (head_in rest) is le))
 
 pub one_at_a_time : (run : Option (List ℕ)) (rest more : List ℕ) → front run rest ≡ More
     → length more ≤ room_of (Some (Open run rest)) → length (cut run (rest ++ more)).raws ≤ 1

@@ -79,7 +79,8 @@ put_split c [] kept other more none =
     ap (λ (b : Bool). cond b ((c, other) ∷ more) ((c, kept) ∷ put c other more)) (eq-eqb c c refl)
 put_split c (one ∷ ones) kept other more none =
     let h = not_first c one ones none in
-    ap (λ (b : Bool). cond b ((c, other) ∷ (ones ++ (c, kept) ∷ more)) (one ∷ put c other (ones ++ (c, kept) ∷ more))) h.0
+    ap (λ (b : Bool). cond b ((c, other) ∷ (ones ++ (c, kept) ∷ more)) (one ∷ put c other (ones ++ (c, kept) ∷ more)))
+    h.0
     ∙ ap (λ xs. one ∷ xs) (put_split c ones kept other more h.1)
 
 pub without_split : {C : Type 0} (c : ℕ) (before : List (ℕ × C)) (kept : C) (more : List (ℕ × C)) → at c before ≡ None
@@ -93,7 +94,8 @@ without_split c (one ∷ ones) kept more none =
 
 -- ---- what is done at a place
 
-pub at_place : {C : Type 0} (c place : ℕ) (there : List (ℕ × C)) (p : IsPlace 0 c place there) → at c there ≡ Some p.kept
+pub at_place : {C : Type 0} (c place : ℕ) (there : List (ℕ × C)) (p : IsPlace 0 c place there)
+    → at c there ≡ Some p.kept
 at_place c place there p = ap (at c) p.split ∙ at_split c p.before p.kept p.more p.first
 
 pub put_at : {C : Type 0} (c place : ℕ) (there : List (ℕ × C)) (other : C) (p : IsPlace 0 c place there)
@@ -171,19 +173,23 @@ removed_place {C} c place there p =
     let is : place ≡ length p.before = let at_it = p.place_is in omega (arith, at_it) in
     let next : place + 1 ≡ suc (length p.before) = omega (arith, is) in
     ap (λ (xs : List (ℕ × C)). take place xs ++ drop (place + 1) xs) p.split
-    ∙ ap (λ (k : ℕ). take k (p.before ++ (c, p.kept) ∷ p.more) ++ drop (place + 1) (p.before ++ (c, p.kept) ∷ p.more)) is
-    ∙ ap (λ (k : ℕ). take (length p.before) (p.before ++ (c, p.kept) ∷ p.more) ++ drop k (p.before ++ (c, p.kept) ∷ p.more)) next
+    ∙ ap (λ (k : ℕ). take k (p.before ++ (c, p.kept) ∷ p.more) ++ drop (place + 1) (p.before ++ (c, p.kept) ∷ p.more))
+    is
+    ∙ ap (λ (k : ℕ). take (length p.before) (p.before ++ (c, p.kept) ∷ p.more)
+    ++ drop k (p.before ++ (c, p.kept) ∷ p.more)) next
     ∙ removed_parts p.before (c, p.kept) p.more
     ∙ sym (without_at c place there p)
 
 -- ---- lists of which each element is seen in another way
 
-map_set : {A B : Type 0} (f : A → B) (xs : List A) (n : ℕ) (x : A) → map f (slice_set xs n x) ≡ slice_set (map f xs) n (f x)
+map_set : {A B : Type 0} (f : A → B) (xs : List A) (n : ℕ) (x : A)
+    → map f (slice_set xs n x) ≡ slice_set (map f xs) n (f x)
 map_set f [] n x = refl
 map_set f (y ∷ ys) zero x = refl
 map_set f (y ∷ ys) (suc n) x = ap (λ zs. f y ∷ zs) (map_set f ys n x)
 
-map_get : {A B : Type 0} (f : A → B) (xs : List A) (n : ℕ) (x : A) → slice_get xs n ≡ Some x → slice_get (map f xs) n ≡ Some (f x)
+map_get : {A B : Type 0} (f : A → B) (xs : List A) (n : ℕ) (x : A) → slice_get xs n ≡ Some x
+    → slice_get (map f xs) n ≡ Some (f x)
 map_get f [] n x e = absurd (nothing x e)
 map_get {A} f (y ∷ ys) zero x e = ap (λ (z : A). Some (f z)) (some_same y x e)
 map_get f (y ∷ ys) (suc n) x e = map_get f ys n x e

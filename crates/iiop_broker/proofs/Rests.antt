@@ -19,7 +19,8 @@ rests_are (t ∷ ts) (k ∷ ks) same =
     (ap₂ (λ (n : ℕ) (s : Stream). (n, s)) same.0 (left_is k.1 t.1 same.1)) (rests_are ts ks same.2)
 
 pub is_talked : {S : Type 0} (Serves : Serving S) (Moves : Moving S) (servant : S) (said : List (Event × List ℕ))
-    (after : World S Stream) → Follows rests Serves Moves (world servant []) said after → IsTalked Serves Moves servant said after
+    (after : World S Stream) → Follows rests Serves Moves (world servant []) said after
+    → IsTalked Serves Moves servant said after
 is_talked Serves Moves servant said after h =
     let r = follows_same rests histories (λ stream h. IsLeft h stream) rests_alike Serves Moves said (world servant [])
     (world servant []) after (record { servant = refl; there = tt }) h in

@@ -20,7 +20,8 @@ use Rattle.iiop_broker.specs.declared.front.Turn.TheVariants as turns
 use Rattle.iiop_broker.specs.inner.Progress.{Progress, Ended, Stopped, behind}
 use Rattle.iiop_broker.specs.inner.Turns.{IsPart, IsServedTurn, IsTurnOf, IsTurned}
 
-pub piece_turned : {S : Type 0} (acting : Acting S) (served : Served) (run : Option (List ℕ)) (octets begun rest : List ℕ)
+pub piece_turned : {S : Type 0} (acting : Acting S) (served : Served) (run : Option (List ℕ))
+    (octets begun rest : List ℕ)
     (before : S) (answer : List ℕ) → front run octets ≡ Piece begun rest → answer ≡ []
     → Progress acting served (cut run octets) (cut (Some begun) rest) before answer before
 piece_turned acting served run octets begun rest before answer e none = record {
@@ -31,7 +32,8 @@ piece_turned acting served run octets begun rest before answer e none = record {
 
 pub broken_turned : {S : Type 0} (acting : Acting S) (served : Served) (run : Option (List ℕ)) (octets : List ℕ)
     (fault : FramingFault) (before : S) (answer : List ℕ) → front run octets ≡ Broken fault
-    → ServesRaw acting served None before answer true before → Ended acting served (cut run octets).raws before answer before
+    → ServesRaw acting served None before answer true before
+    → Ended acting served (cut run octets).raws before answer before
 broken_turned acting served run octets fault before answer e one = record {
   done = None ∷ [];
   left = [];
@@ -43,10 +45,12 @@ whole_raws : (run : Option (List ℕ)) (octets message : List ℕ) (kept : Optio
     → front run octets ≡ Whole message kept rest → (cut run octets).raws ≡ (Some message ∷ []) ++ (cut kept rest).raws
 whole_raws run octets message kept rest e = ap (λ (c : Cut). c.raws) (cut_whole run octets message kept rest e)
 
-pub message_turned : {S : Type 0} (acting : Acting S) (served : Served) (run : Option (List ℕ)) (octets message : List ℕ)
+pub message_turned : {S : Type 0} (acting : Acting S) (served : Served) (run : Option (List ℕ))
+    (octets message : List ℕ)
     (kept : Option (List ℕ)) (len : ℕ) (before : S) (turn : Turn) (after : S)
     → front run octets ≡ Whole message kept (drop len octets) → IsPart octets len
-    → IsServedTurn acting served message kept len before turn after → IsTurned acting served run octets before turn after
+    → IsServedTurn acting served message kept len before turn after
+    → IsTurned acting served run octets before turn after
 message_turned acting served run octets message kept len before (turns.Waits left) after e part h = absurd h
 message_turned acting served run octets message kept len before (turns.Goes left n answer) after e part (a, b, one) = (
   subst (IsPart octets) (sym b) part,
@@ -69,7 +73,8 @@ pub stopped_at_once : {S : Type 0} (acting : Acting S) (served : Served) (raws :
     → after ≡ before → Stopped acting served raws before after
 stopped_at_once acting served raws before after same = record { done = []; left = raws; raws_are = refl; moves = same }
 
-pub message_stopped : {S : Type 0} (acting : Acting S) (served : Served) (run : Option (List ℕ)) (octets message : List ℕ)
+pub message_stopped : {S : Type 0} (acting : Acting S) (served : Served) (run : Option (List ℕ))
+    (octets message : List ℕ)
     (kept : Option (List ℕ)) (rest : List ℕ) (before after : S) → front run octets ≡ Whole message kept rest
     → MayMoveRaw acting served (Some message) before after → Stopped acting served (cut run octets).raws before after
 message_stopped acting served run octets message kept rest before after e (inl same) =
@@ -86,18 +91,21 @@ message_stopped acting served run octets message kept rest before after e (inr m
 pub frame_told : (seen run : Option (List ℕ)) (octets : List ℕ) (told : Option Frame) (frame : Frame) → seen ≡ run
     → told ≡ Some frame → IsFront seen octets (Ok told) → IsFrame run octets frame
 frame_told seen run octets told frame s t h =
-    subst (λ (r : Option (List ℕ)). IsFrame r octets frame) s (subst (λ (o : Option Frame). IsFront seen octets (Ok o)) t h)
+    subst (λ (r : Option (List ℕ)). IsFrame r octets frame) s
+    (subst (λ (o : Option Frame). IsFront seen octets (Ok o)) t h)
 
 pub more_told : (seen run : Option (List ℕ)) (octets : List ℕ) (told : Option Frame) → seen ≡ run → told ≡ None
     → IsFront seen octets (Ok told) → front run octets ≡ More
 more_told seen run octets told s t h =
-    subst (λ (r : Option (List ℕ)). front r octets ≡ More) s (subst (λ (o : Option Frame). IsFront seen octets (Ok o)) t h)
+    subst (λ (r : Option (List ℕ)). front r octets ≡ More) s
+    (subst (λ (o : Option Frame). IsFront seen octets (Ok o)) t h)
 
 pub broken_told : (seen run : Option (List ℕ)) (octets : List ℕ) (fault : FramingFault) → seen ≡ run
     → IsFront seen octets (Err fault) → front run octets ≡ Broken fault
 broken_told seen run octets fault s h = subst (λ (r : Option (List ℕ)). front r octets ≡ Broken fault) s h
 
-pub frame_part : (run : Option (List ℕ)) (octets : List ℕ) (frame : Frame) → IsFrame run octets frame → IsPart octets frame.len
+pub frame_part : (run : Option (List ℕ)) (octets : List ℕ) (frame : Frame) → IsFrame run octets frame
+    → IsPart octets frame.len
 frame_part run octets frame f = record {
   some = let whole = f.is.whole in omega (arith, whole, length-take-le frame.len octets f.within);
   within = f.within;
@@ -107,7 +115,8 @@ frame_part run octets frame f = record {
 pub fragment_front : (run : Option (List ℕ)) (there octets piece grown : List ℕ) (frame : Frame) (goes_on : Bool)
     → IsFrame run octets frame → is_fragment frame.head.kind ≡ true → run ≡ Some there → piece ≡ take frame.len octets
     → grown ≡ added there piece → frame.head.goes_on ≡ goes_on
-    → front run octets ≡ (if goes_on then Piece grown (drop frame.len octets) else Whole grown None (drop frame.len octets))
+    → front run octets ≡ (if goes_on then Piece grown (drop frame.len octets)
+    else Whole grown None (drop frame.len octets))
 fragment_front run there octets piece grown frame goes_on f e now is more g =
     let rest = drop frame.len octets in
     let message = take frame.len octets in
@@ -120,7 +129,8 @@ fragment_front run there octets piece grown frame goes_on f e now is more g =
 
 -- the first piece of a run
 pub first_front : (run : Option (List ℕ)) (octets piece made : List ℕ) (frame : Frame) → IsFrame run octets frame
-    → is_fragment frame.head.kind ≡ false → frame.head.goes_on ≡ true → piece ≡ take frame.len octets → made ≡ begun piece
+    → is_fragment frame.head.kind ≡ false → frame.head.goes_on ≡ true → piece ≡ take frame.len octets
+    → made ≡ begun piece
     → front run octets ≡ Piece made (drop frame.len octets)
 first_front run octets piece made frame f e g is m =
     f.front_is
@@ -138,7 +148,8 @@ whole_front run octets piece kept frame f e g is k =
     ∙ ap (λ (r : Option (List ℕ)). Whole piece r (drop frame.len octets)) (sym k)
 
 -- what the answer to a message leads to
-pub turn_served : {S : Type 0} (acting : Acting S) (served : Served) (message : List ℕ) (kept : Option (List ℕ)) (len : ℕ)
+pub turn_served : {S : Type 0} (acting : Acting S) (served : Served) (message : List ℕ) (kept : Option (List ℕ))
+    (len : ℕ)
     (before after : S) (answer : Answer) (turn : Turn)
     → ServesRaw acting served (Some message) before answer.octets.items answer.closes after
     → IsTurnOf answer kept len turn → IsServedTurn acting served message kept len before turn after
@@ -154,7 +165,8 @@ turn_served acting served message kept len before after answer (turns.Ends octet
     (subst (λ (k : Bool). ServesRaw acting served (Some message) before answer.octets.items k after) shut s)
 
 -- the same for the service and the octets at hand
-pub turned_here : {S : Type 0} (acting : Acting S) (served other : Served) (run : Option (List ℕ)) (octets lent : List ℕ)
+pub turned_here : {S : Type 0} (acting : Acting S) (served other : Served) (run : Option (List ℕ))
+    (octets lent : List ℕ)
     (before : S) (told turn : Turn) (after : S) → other ≡ served → lent ≡ octets → told ≡ turn
     → IsTurned acting other run lent before told after → IsTurned acting served run octets before turn after
 turned_here acting served other run octets lent before told turn after s o t h =

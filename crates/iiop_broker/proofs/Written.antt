@@ -14,7 +14,8 @@ taken_then (suc s) n (x ∷ xs) =
     let e : suc (s + n) ≡ suc s + n = omega arith in
     ap (λ (ys : List ℕ). x ∷ ys) (taken_then s n xs) ∙ ap (λ (k : ℕ). take k (x ∷ xs)) e
 
-pub adds_then : (told between after : Option (List ℕ)) (a b : List ℕ) → Adds told a between → Adds between b after → Adds told (a ++ b) after
+pub adds_then : (told between after : Option (List ℕ)) (a b : List ℕ) → Adds told a between → Adds between b after
+    → Adds told (a ++ b) after
 adds_then None between after a b e f = tt
 adds_then (Some w) between after a b e f =
     let is : after ≡ Some ((w ++ a) ++ b) = subst (λ (t : Option (List ℕ)). Adds t b after) e f in
@@ -24,7 +25,8 @@ pub adds_nothing : (told : Option (List ℕ)) → Adds told [] told
 adds_nothing None = tt
 adds_nothing (Some w) = ap Some (sym (append-nil w))
 
-pub written_more : (told after now : Option (List ℕ)) (s n : ℕ) (octets behind : List ℕ) → Adds told (take s octets) after
+pub written_more : (told after now : Option (List ℕ)) (s n : ℕ) (octets behind : List ℕ)
+    → Adds told (take s octets) after
     → behind ≡ drop s octets → Adds after (take n behind) now → Adds told (take (s + n) octets) now
 written_more told after now s n octets behind e b f =
     let parts : take s octets ++ take n behind ≡ take (s + n) octets =
@@ -43,6 +45,8 @@ and_false : (b c : Bool) → c ≡ false → (b && c) ≡ false
 and_false true c e = e
 and_false false c e = refl
 
-pub unstuck : (before now : Bool) (octets : List ℕ) (n : ℕ) → (n ≡ 0 → ⊥) → now ≡ (before || is_stuck octets n) → now ≡ before
+pub unstuck : (before now : Bool) (octets : List ℕ) (n : ℕ) → (n ≡ 0 → ⊥) → now ≡ (before || is_stuck octets n)
+    → now ≡ before
 unstuck before now octets n other e =
-    e ∙ or_false before (is_stuck octets n) (and_false (nat_lt 0 (length octets)) (nat_eq n 0) (not_zero (nat_eq n 0) n refl other))
+    e ∙ or_false before (is_stuck octets n)
+    (and_false (nat_lt 0 (length octets)) (nat_eq n 0) (not_zero (nat_eq n 0) n refl other))

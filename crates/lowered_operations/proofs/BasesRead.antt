@@ -44,48 +44,62 @@ abbrev IsBased : State → Type 0
 IsBased st = AreIn (length st.entries) st.entries
 
 wider : (m n : ℕ) (bs : List Base) → m ≤ n → All (λ b. b.entry < m) bs → All (λ b. b.entry < n) bs
-wider m n bs le h = All-weaker (λ (b : Base). b.entry < m) (λ (b : Base). b.entry < n) (λ b lt. omega (arith, lt, le)) bs h
+wider m n bs le h = All-weaker (λ (b : Base). b.entry < m) (λ (b : Base). b.entry < n) (λ b lt. omega (arith, lt, le))
+    bs h
 
-push_based : (es : List Entry) (e : Entry) → e.bases ≡ [] → AreIn (length es) es → AreIn (length (es ++ e ∷ [])) (es ++ e ∷ [])
+push_based : (es : List Entry) (e : Entry) → e.bases ≡ [] → AreIn (length es) es
+    → AreIn (length (es ++ e ∷ [])) (es ++ e ∷ [])
 push_based es e none h k x is = by (push_cases es e k x is)
   where
     by : (slice_get es k ≡ Some x) ⊎ ((k ≡ length es) × (e ≡ x)) → All (λ b. b.entry < length (es ++ e ∷ [])) x.bases
-    by (inl old) = let long = length-append es (e ∷ []) in wider (length es) (length (es ++ e ∷ [])) x.bases (omega (arith, long)) (h k x old)
+    by (inl old) = let long = length-append es (e ∷ []) in
+        wider (length es) (length (es ++ e ∷ [])) x.bases (omega (arith, long)) (h k x old)
     by (inr (at_end, same)) =
         let bare : x.bases ≡ [] = sym (ap (λ y. y.bases) same) ∙ none in
         subst (All (λ b. b.entry < length (es ++ e ∷ []))) (sym bare) (All-nil (λ b. b.entry < length (es ++ e ∷ [])))
 
-base_based : (es : List Entry) (inner : ℕ) (base : Base) → base.entry < length es → AreIn (length es) es → AreIn (length (with_base es inner base)) (with_base es inner base)
+base_based : (es : List Entry) (inner : ℕ) (base : Base) → base.entry < length es → AreIn (length es) es
+    → AreIn (length (with_base es inner base)) (with_base es inner base)
 base_based es zero base lt h = h
 base_based es (suc e) base lt h = by (slice_get es e) refl
   where
-    by : (o : Option Entry) → slice_get es e ≡ o → AreIn (length (entry_with_base es e base o)) (entry_with_base es e base o)
+    by : (o : Option Entry) → slice_get es e ≡ o
+        → AreIn (length (entry_with_base es e base o)) (entry_with_base es e base o)
     by None is = h
     by (Some y) is = λ k x there.
         let more : Entry = record y { bases = y.bases ++ base ∷ [] } in
         let long = length-set es e more in
-        wider (length es) (length (slice_set es e more)) x.bases (omega (arith, long)) (each k x (set_cases es e y more k x is there))
+        wider (length es) (length (slice_set es e more)) x.bases (omega (arith, long))
+        (each k x (set_cases es e y more k x is there))
       where
-        each : (k : ℕ) (x : Entry) → ((k ≡ e) × ((record y { bases = y.bases ++ base ∷ [] }) ≡ x)) ⊎ ((k ≡ e → ⊥) × (slice_get es k ≡ Some x)) → All (λ b. b.entry < length es) x.bases
-        each k x (inl (here, same)) = subst (λ z. All (λ b. b.entry < length es) z.bases) same (All-push (λ b. b.entry < length es) y.bases base (h e y is) lt)
+        each : (k : ℕ) (x : Entry) → ((k ≡ e) × ((record y { bases = y.bases ++ base ∷ [] }) ≡ x))
+            ⊎ ((k ≡ e → ⊥) × (slice_get es k ≡ Some x)) → All (λ b. b.entry < length es) x.bases
+        each k x (inl (here, same)) =
+            subst (λ z. All (λ b. b.entry < length es) z.bases) same
+            (All-push (λ b. b.entry < length es) y.bases base (h e y is) lt)
         each k x (inr (differs, there)) = h k x there
 
 -- ---- steps
 
 -- a declaration changes nothing, or adds an entry
-pub declared_either : (m : Meaning) (st next : State) (l : Leaf) → declared_as m st l ≡ Ok next → (st ≡ next) ⊎ (with_declared m st l ≡ next)
+pub declared_either : (m : Meaning) (st next : State) (l : Leaf) → declared_as m st l ≡ Ok next → (st ≡ next)
+    ⊎ (with_declared m st l ≡ next)
 declared_either m st next l h =
-    let (u, test, rest) = then_ok (free_test l (taken_by st (word l))) (λ u. declares_over m st l (entry_in st.entries (named st.entries st.scope (word l)))) next h in
+    let (u, test, rest) = then_ok (free_test l (taken_by st (word l)))
+    (λ u. declares_over m st l (entry_in st.entries (named st.entries st.scope (word l)))) next h in
     by (entry_in st.entries (named st.entries st.scope (word l))) rest
   where
-    again : (e : Entry) (a b : Bool) → (let r : StateOrFault = if not a then Err (Collides (at l) (at_entry (Some e))) else if b then Err (PrefixDiffers (at l) (at_entry (Some e))) else Ok st in r) ≡ Ok next → st ≡ next
+    again : (e : Entry) (a b : Bool)
+        → (let r : StateOrFault = if not a then Err (Collides (at l) (at_entry (Some e))) else if b then
+        Err (PrefixDiffers (at l) (at_entry (Some e))) else Ok st in r) ≡ Ok next → st ≡ next
     again e true true is = absurd cc
     again e true false is = cc
     again e false b is = absurd cc
 
     by : (o : Option Entry) → declares_over m st l o ≡ Ok next → (st ≡ next) ⊎ (with_declared m st l ≡ next)
     by None is = inr cc
-    by (Some e) is = inl (again e (may_reappear m.kind e.kind && bytes_eq (word l) e.name) (keeps_prefix m.kind && not (bytes_eq st.prefix e.prefix)) is)
+    by (Some e) is = inl (again e (may_reappear m.kind e.kind && bytes_eq (word l) e.name)
+        (keeps_prefix m.kind && not (bytes_eq st.prefix e.prefix)) is)
 
 declared_based : (m : Meaning) (st next : State) (l : Leaf) → declared_as m st l ≡ Ok next → IsBased st → IsBased next
 declared_based m st next l h i = by (declared_either m st next l h)
@@ -94,18 +108,26 @@ declared_based m st next l h i = by (declared_either m st next l h)
     by (inl same) = subst IsBased same i
     by (inr added) = subst IsBased added (push_based st.entries _ refl i)
 
-added_based : (st next : State) (inner : ℕ) (name : ScopedName) → base_added st inner name ≡ Ok next → IsBased st → IsBased next
+added_based : (st next : State) (inner : ℕ) (name : ScopedName) → base_added st inner name ≡ Ok next → IsBased st
+    → IsBased next
 added_based st next inner name h i =
-    let (e, finds, rest) = then_ok (resolved st.entries st.scope name) (λ e. with_base_at st inner (record { token = (name_start name).number; entry = e }) (at (name_start name))) next h in
+    let (e, finds, rest) = then_ok (resolved st.entries st.scope name)
+    (λ e. with_base_at st inner (record { token = (name_start name).number; entry = e }) (at (name_start name)))
+    next h in
     let base : Base = record { token = (name_start name).number; entry = e } in
     let here = at (name_start name) in
-    let (u, test, last) = then_ok (base_test st inner base here) (λ u. let r : StateOrFault = Ok (based st inner base) in r) next rest in
-    let defined = passes (is_defined_interface st e) (list_any (λ b. nat_eq b.entry e) (bases_of st.entries inner)) (differ (features_of st.entries) inner base) here u test in
-    let (x, there, kind) = of_kind is_interface (slice_get st.entries e) (and_parts (is_of is_interface (slice_get st.entries e)) (is_defined st (suc e)) defined).0 in
+    let (u, test, last) = then_ok (base_test st inner base here)
+    (λ u. let r : StateOrFault = Ok (based st inner base) in r) next rest in
+    let defined = passes (is_defined_interface st e) (list_any (λ b. nat_eq b.entry e) (bases_of st.entries inner))
+    (differ (features_of st.entries) inner base) here u test in
+    let (x, there, kind) = of_kind is_interface (slice_get st.entries e)
+    (and_parts (is_of is_interface (slice_get st.entries e)) (is_defined st (suc e)) defined).0 in
     let same : based st inner base ≡ next = cc in
     subst IsBased same (base_based st.entries inner base (slice_get_within st.entries e x there) i)
   where
-    passes : (a b c : Bool) (here : At) (u : Unit {0}) → (let t : Test = if not a then Err (BadBase here NotDefined) else if b then Err (BadBase here NamedTwice) else if c then Err (BadBase here FeatureTwice) else Ok tt in t) ≡ Ok u → a ≡ true
+    passes : (a b c : Bool) (here : At) (u : Unit {0})
+        → (let t : Test = if not a then Err (BadBase here NotDefined) else if b then Err (BadBase here NamedTwice)
+        else if c then Err (BadBase here FeatureTwice) else Ok tt in t) ≡ Ok u → a ≡ true
     passes true b c here u is = refl
     passes false b c here u is = absurd cc
 
@@ -117,9 +139,12 @@ said_based st next l (Some (SetsPrefix text)) h i = by st.scope h
     by zero is = let set : State = record st { prefix = text } in let same : set ≡ next = cc in subst IsBased same i
     by (suc e) is = absurd cc
 said_based st next l (Some (Gives name given)) h i =
-    let (e, finds, h1) = then_ok (found_at st.entries (at l) (identifiers_see st.entries l.number st.scope (begins_at_root name) (words name)))
-    (λ e. given_once st.given e given (at l) (pragma_for st.given e) >> λ ps. let r : StateOrFault = Ok (record st { given = ps }) in r) next h in
-    let (ps, gives, h2) = then_ok (given_once st.given e given (at l) (pragma_for st.given e)) (λ ps. let r : StateOrFault = Ok (record st { given = ps }) in r) next h1 in
+    let (e, finds, h1) = then_ok
+    (found_at st.entries (at l) (identifiers_see st.entries l.number st.scope (begins_at_root name) (words name)))
+    (λ e. given_once st.given e given (at l) (pragma_for st.given e) >> λ ps. let r : StateOrFault =
+    Ok (record st { given = ps }) in r) next h in
+    let (ps, gives, h2) = then_ok (given_once st.given e given (at l) (pragma_for st.given e))
+    (λ ps. let r : StateOrFault = Ok (record st { given = ps }) in r) next h1 in
     let more : State = record st { given = ps } in
     let same : more ≡ next = cc in
     subst IsBased same i
@@ -128,32 +153,41 @@ step_based : (st next : State) (s : Step) → step_read st s ≡ Ok next → IsB
 step_based st next (Declares kind l) h i = declared_based (plain_meant l.number kind) st next l h i
 step_based st next (DeclaresEnum l) h i =
     let m = enum_meant (length st.entries) l in
-    let (mid, declares, rest) = then_ok (declared_as m st l) (λ next. let r : StateOrFault = Ok (record next { enumeration = length st.entries }) in r) next h in
+    let (mid, declares, rest) =
+    then_ok (declared_as m st l) (λ next. let r : StateOrFault =
+    Ok (record next { enumeration = length st.entries }) in r) next h in
     let last : State = record mid { enumeration = length st.entries } in
     let same : last ≡ next = cc in
     subst IsBased same (declared_based m st mid l declares i)
-step_based st next (DeclaresEnumerator l) h i = declared_based (enumerator_meant st.enumeration (length st.entries) l) st next l h i
-step_based st next (DeclaresTypedef t d) h i = declared_based (typedef_meant (type_kind st t) d) st next d.identifier h i
+step_based st next (DeclaresEnumerator l) h i =
+    declared_based (enumerator_meant st.enumeration (length st.entries) l) st next l h i
+step_based st next (DeclaresTypedef t d) h i =
+    declared_based (typedef_meant (type_kind st t) d) st next d.identifier h i
 step_based st next (DeclaresConst c) h i =
-    let (worth, is, rest) = then_ok (value_of_type (const_type_kind st.entries st.scope c.const_type) st.entries st.scope c.value.expr)
+    let (worth, is, rest) = then_ok
+    (value_of_type (const_type_kind st.entries st.scope c.const_type) st.entries st.scope c.value.expr)
     (λ worth. declared_as (const_meant c worth) st c.identifier) next h in
     declared_based (const_meant c worth) st next c.identifier rest i
 step_based st next (DeclaresFeature kind l) h i =
-    let (u, free, rest) = then_ok (free_of st.entries l (inherited (features_of st.entries) l.number st.scope (word l))) (λ u. declared_plain kind st l) next h in
+    let (u, free, rest) = then_ok (free_of st.entries l (inherited (features_of st.entries) l.number st.scope (word l)))
+    (λ u. declared_plain kind st l) next h in
     declared_based (plain_meant l.number kind) st next l rest i
 step_based st next (HasMember l) h i =
-    let more : State = record st { members = st.members ++ record { scope = st.scope; name = word l; at = at l } ∷ [] } in
+    let more : State = record st { members = st.members ++ record { scope = st.scope; name = word l; at = at l } ∷ [] }
+    in
     let (u, test, rest) = then_ok (new_test st l) (λ u. let r : StateOrFault = Ok more in r) next h in
     let same : more ≡ next = cc in
     subst IsBased same i
 step_based st next (HasBase l name) h i = added_based st next (scope_of st.entries st.scope l) name h i
-step_based st next (Enters l) h i = let inside : State = record st { scope = scope_of st.entries st.scope l } in let same : inside ≡ next = cc in subst IsBased same i
+step_based st next (Enters l) h i = let inside : State = record st { scope = scope_of st.entries st.scope l } in
+    let same : inside ≡ next = cc in subst IsBased same i
 step_based st next (Defines l) h i =
     let more : State = record st { defined = st.defined ++ st.scope ∷ [] } in
     let (u, test, rest) = then_ok (undefined_test st st.scope l) (λ u. let r : StateOrFault = Ok more in r) next h in
     let same : more ≡ next = cc in
     subst IsBased same i
-step_based st next Leaves h i = let outside : State = record st { scope = around st.entries st.scope } in let same : outside ≡ next = cc in subst IsBased same i
+step_based st next Leaves h i = let outside : State = record st { scope = around st.entries st.scope } in
+    let same : outside ≡ next = cc in subst IsBased same i
 step_based st next (Says l) h i = said_based st next l (said_by l) h i
 step_based st next s h i = let same = passed_same st (test_of st s) next h in subst IsBased same i
 
@@ -167,21 +201,27 @@ steps_based st next (s ∷ steps) h i =
 
 -- what reading gives at its end
 pub names_read : (definitions : List Definition) (names : FileNames) → AreNames definitions names
-    → (st : State) × (steps_read nothing_yet (steps_of definitions) ≡ Ok st) × (never_defined (left_open st 0 st.entries) ≡ Ok tt) × (st.entries ≡ names.entries)
+    → (st : State) × (steps_read nothing_yet (steps_of definitions) ≡ Ok st)
+    × (never_defined (left_open st 0 st.entries) ≡ Ok tt) × (st.entries ≡ names.entries)
 names_read definitions names h =
-    let (read, reads, is) = then_ok (specification_read definitions) (λ st. let r : Result FileNames NameFault = Ok (file_names st) in r) names h in
-    let (st, steps, rest) = then_ok (steps_read nothing_yet (steps_of definitions)) (λ st. passed st (never_defined (left_open st 0 st.entries))) read reads in
-    let (u, test, last) = then_ok (never_defined (left_open st 0 st.entries)) (λ u. let r : StateOrFault = Ok st in r) read rest in
+    let (read, reads, is) = then_ok (specification_read definitions)
+    (λ st. let r : Result FileNames NameFault = Ok (file_names st) in r) names h in
+    let (st, steps, rest) = then_ok (steps_read nothing_yet (steps_of definitions))
+    (λ st. passed st (never_defined (left_open st 0 st.entries))) read reads in
+    let (u, test, last) = then_ok (never_defined (left_open st 0 st.entries)) (λ u. let r : StateOrFault = Ok st in r)
+    read rest in
     let same = passed_same st (never_defined (left_open st 0 st.entries)) read rest in
     let whole_is : file_names st ≡ names = ap file_names same ∙ cc in
     (st, steps, test, ap (λ w. w.entries) whole_is)
 
-pub bases_are_entries : (definitions : List Definition) (names : FileNames) → AreNames definitions names → AreBased names.entries
+pub bases_are_entries : (definitions : List Definition) (names : FileNames) → AreNames definitions names
+    → AreBased names.entries
 bases_are_entries definitions names h =
     let (st, steps, test, is) = names_read definitions names h in
     let all = steps_based nothing_yet st (steps_of definitions) steps (λ k x none. absurd cc) in
     subst AreBased is (λ e. by st.entries (slice_get st.entries e) (λ x there. all e x there))
   where
-    by : (es : List Entry) (o : Option Entry) → ((x : Entry) → o ≡ Some x → All (λ b. b.entry < length es) x.bases) → All (λ b. b.entry < length es) (bases_in o)
+    by : (es : List Entry) (o : Option Entry) → ((x : Entry) → o ≡ Some x → All (λ b. b.entry < length es) x.bases)
+        → All (λ b. b.entry < length es) (bases_in o)
     by es None h = All-nil (λ b. b.entry < length es)
     by es (Some x) h = h x refl

@@ -50,11 +50,17 @@ still st s = record { scope = refl; names = λ scope name n is. is; bodies = λ 
 declares_moves : (m : Meaning) (st next : State) (l : Leaf) (s : Step) → declared_as m st l ≡ Ok next → Moves st s next
 declares_moves m st next l s h =
     let does = declared_does m st next l h in
-    record { scope = does.scope; names = does.adds.grows.names; bodies = λ k d. inl (by (declared_either m st next l h) k d) }
+    record {
+      scope = does.scope;
+      names = does.adds.grows.names;
+      bodies =
+          λ k d. inl (by (declared_either m st next l h) k d);
+    }
   where
     by : (st ≡ next) ⊎ (with_declared m st l ≡ next) → (k : ℕ) → is_defined next k ≡ true → is_defined st k ≡ true
     by (inl same) k d = subst (λ x. is_defined x k ≡ true) (sym same) d
-    by (inr added) k d = let there : is_defined (with_declared m st l) k ≡ true = subst (λ x. is_defined x k ≡ true) (sym added) d in there
+    by (inr added) k d = let there : is_defined (with_declared m st l) k ≡ true =
+        subst (λ x. is_defined x k ≡ true) (sym added) d in there
 
 -- only what isn't looked at changes
 moves_to : (st mid next : State) (s : Step) → mid ≡ next → Moves st s mid → Moves st s next
@@ -68,12 +74,16 @@ said_moves st next l (Some (SetsPrefix text)) h = by st.scope h
     by zero is =
         let set : State = record st { prefix = text } in
         let same : set ≡ next = cc in
-        moves_to st set next (Says l) same (record { scope = refl; names = λ scope name n is. is; bodies = λ k d. inl d })
+        moves_to st set next (Says l) same
+        (record { scope = refl; names = λ scope name n is. is; bodies = λ k d. inl d })
     by (suc e) is = absurd cc
 said_moves st next l (Some (Gives name given)) h =
-    let (e, finds, h1) = then_ok (found_at st.entries (at l) (identifiers_see st.entries l.number st.scope (begins_at_root name) (words name)))
-    (λ e. given_once st.given e given (at l) (pragma_for st.given e) >> λ ps. let r : StateOrFault = Ok (record st { given = ps }) in r) next h in
-    let (ps, gives, h2) = then_ok (given_once st.given e given (at l) (pragma_for st.given e)) (λ ps. let r : StateOrFault = Ok (record st { given = ps }) in r) next h1 in
+    let (e, finds, h1) = then_ok
+    (found_at st.entries (at l) (identifiers_see st.entries l.number st.scope (begins_at_root name) (words name)))
+    (λ e. given_once st.given e given (at l) (pragma_for st.given e) >> λ ps. let r : StateOrFault =
+    Ok (record st { given = ps }) in r) next h in
+    let (ps, gives, h2) = then_ok (given_once st.given e given (at l) (pragma_for st.given e))
+    (λ ps. let r : StateOrFault = Ok (record st { given = ps }) in r) next h1 in
     let more : State = record st { given = ps } in
     let same : more ≡ next = cc in
     moves_to st more next (Says l) same (record { scope = refl; names = λ scope name n is. is; bodies = λ k d. inl d })
@@ -84,22 +94,34 @@ defines_moves st next l h =
     let more : State = record st { defined = st.defined ++ st.scope ∷ [] } in
     let (u, test, rest) = then_ok (undefined_test st st.scope l) (λ u. let r : StateOrFault = Ok more in r) next h in
     let same : more ≡ next = cc in
-    record { scope = does.scope; names = does.adds.grows.names; bodies = λ k d. by k (subst (λ x. is_defined x k ≡ true) (sym same) d) }
+    record {
+      scope = does.scope;
+      names = does.adds.grows.names;
+      bodies =
+          λ k d. by k (subst (λ x. is_defined x k ≡ true) (sym same) d);
+    }
   where
-    by : (k : ℕ) → list_any (λ s. nat_eq k s) (st.defined ++ st.scope ∷ []) ≡ true → (is_defined st k ≡ true) ⊎ IsDone (introduced_by st.scope (Defines l)) k
-    by k d = one (is_defined st k) (nat_eq k st.scope) refl refl (sym (list_any-append (λ s. nat_eq k s) st.defined (st.scope ∷ [])) ∙ d)
+    by : (k : ℕ) → list_any (λ s. nat_eq k s) (st.defined ++ st.scope ∷ []) ≡ true → (is_defined st k ≡ true)
+        ⊎ IsDone (introduced_by st.scope (Defines l)) k
+    by k d = one (is_defined st k) (nat_eq k st.scope) refl refl
+        (sym (list_any-append (λ s. nat_eq k s) st.defined (st.scope ∷ [])) ∙ d)
       where
-        one : (a b : Bool) → is_defined st k ≡ a → nat_eq k st.scope ≡ b → (a || (b || false)) ≡ true → (is_defined st k ≡ true) ⊎ IsDone (introduced_by st.scope (Defines l)) k
+        one : (a b : Bool) → is_defined st k ≡ a → nat_eq k st.scope ≡ b → (a || (b || false)) ≡ true
+            → (is_defined st k ≡ true) ⊎ IsDone (introduced_by st.scope (Defines l)) k
         one true b before is h = inl before
         one false true before is h = inr (inl (eqb-true k st.scope is))
         one false false before is h = absurd cc
 
 -- a base more defines nothing
-based_defined : (st next : State) (inner : ℕ) (name : ScopedName) → base_added st inner name ≡ Ok next → (k : ℕ) → is_defined next k ≡ true → is_defined st k ≡ true
+based_defined : (st next : State) (inner : ℕ) (name : ScopedName) → base_added st inner name ≡ Ok next → (k : ℕ)
+    → is_defined next k ≡ true → is_defined st k ≡ true
 based_defined st next inner name h k d =
-    let (e, finds, rest) = then_ok (resolved st.entries st.scope name) (λ e. with_base_at st inner (record { token = (name_start name).number; entry = e }) (at (name_start name))) next h in
+    let (e, finds, rest) = then_ok (resolved st.entries st.scope name)
+    (λ e. with_base_at st inner (record { token = (name_start name).number; entry = e }) (at (name_start name)))
+    next h in
     let base : Base = record { token = (name_start name).number; entry = e } in
-    let (u, test, last) = then_ok (base_test st inner base (at (name_start name))) (λ u. let r : StateOrFault = Ok (based st inner base) in r) next rest in
+    let (u, test, last) = then_ok (base_test st inner base (at (name_start name)))
+    (λ u. let r : StateOrFault = Ok (based st inner base) in r) next rest in
     let same : based st inner base ≡ next = cc in
     let there : is_defined (based st inner base) k ≡ true = subst (λ x. is_defined x k ≡ true) (sym same) d in
     there
@@ -108,29 +130,42 @@ flat_moves : (st next : State) (s : Step) → IsFlat s → step_read st s ≡ Ok
 flat_moves st next (Declares kind l) flat h = declares_moves (plain_meant l.number kind) st next l (Declares kind l) h
 flat_moves st next (DeclaresEnum l) flat h =
     let m = enum_meant (length st.entries) l in
-    let (mid, declares, rest) = then_ok (declared_as m st l) (λ next. let r : StateOrFault = Ok (record next { enumeration = length st.entries }) in r) next h in
+    let (mid, declares, rest) =
+    then_ok (declared_as m st l) (λ next. let r : StateOrFault =
+    Ok (record next { enumeration = length st.entries }) in r) next h in
     let last : State = record mid { enumeration = length st.entries } in
     let one = declares_moves m st mid l (DeclaresEnum l) declares in
     let same : last ≡ next = cc in
     moves_to st last next (DeclaresEnum l) same (record { scope = one.scope; names = one.names; bodies = one.bodies })
-flat_moves st next (DeclaresEnumerator l) flat h = declares_moves (enumerator_meant st.enumeration (length st.entries) l) st next l (DeclaresEnumerator l) h
-flat_moves st next (DeclaresTypedef t d) flat h = declares_moves (typedef_meant (type_kind st t) d) st next d.identifier (DeclaresTypedef t d) h
+flat_moves st next (DeclaresEnumerator l) flat h =
+    declares_moves (enumerator_meant st.enumeration (length st.entries) l) st next l (DeclaresEnumerator l) h
+flat_moves st next (DeclaresTypedef t d) flat h =
+    declares_moves (typedef_meant (type_kind st t) d) st next d.identifier (DeclaresTypedef t d) h
 flat_moves st next (DeclaresConst c) flat h =
-    let (worth, is, rest) = then_ok (value_of_type (const_type_kind st.entries st.scope c.const_type) st.entries st.scope c.value.expr)
+    let (worth, is, rest) = then_ok
+    (value_of_type (const_type_kind st.entries st.scope c.const_type) st.entries st.scope c.value.expr)
     (λ worth. declared_as (const_meant c worth) st c.identifier) next h in
     declares_moves (const_meant c worth) st next c.identifier (DeclaresConst c) rest
 flat_moves st next (DeclaresFeature kind l) flat h =
-    let (u, free, rest) = then_ok (free_of st.entries l (inherited (features_of st.entries) l.number st.scope (word l))) (λ u. declared_plain kind st l) next h in
+    let (u, free, rest) = then_ok (free_of st.entries l (inherited (features_of st.entries) l.number st.scope (word l)))
+    (λ u. declared_plain kind st l) next h in
     declares_moves (plain_meant l.number kind) st next l (DeclaresFeature kind l) rest
 flat_moves st next (HasMember l) flat h =
     let does = member_does st next l h in
-    let more : State = record st { members = st.members ++ record { scope = st.scope; name = word l; at = at l } ∷ [] } in
+    let more : State = record st { members = st.members ++ record { scope = st.scope; name = word l; at = at l } ∷ [] }
+    in
     let (u, test, rest) = then_ok (new_test st l) (λ u. let r : StateOrFault = Ok more in r) next h in
     let same : more ≡ next = cc in
-    moves_to st more next (HasMember l) same (record { scope = refl; names = λ scope name n is. is; bodies = λ k d. inl d })
+    moves_to st more next (HasMember l) same
+    (record { scope = refl; names = λ scope name n is. is; bodies = λ k d. inl d })
 flat_moves st next (HasBase l name) flat h =
     let does = base_does st next (scope_of st.entries st.scope l) name h in
-    record { scope = does.scope; names = does.adds.grows.names; bodies = λ k d. inl (based_defined st next (scope_of st.entries st.scope l) name h k d) }
+    record {
+      scope = does.scope;
+      names = does.adds.grows.names;
+      bodies =
+          λ k d. inl (based_defined st next (scope_of st.entries st.scope l) name h k d);
+    }
 flat_moves st next (Enters l) flat h = absurd flat
 flat_moves st next (Defines l) flat h = defines_moves st next l h
 flat_moves st next Leaves flat h = absurd flat
@@ -144,16 +179,20 @@ record Walked (es : List Entry) (st : State) (xs : List Step) (next : State) : T
   scope : next.scope ≡ st.scope
   names : Keeps st.entries next.entries
   past : scope_past es st.scope xs ≡ st.scope
-  bodies : (k : ℕ) → is_defined next k ≡ true → (is_defined st k ≡ true) ⊎ ((g : List Introduction) → IsDone (behind es g st.scope xs) k)
+  bodies : (k : ℕ) → is_defined next k ≡ true → (is_defined st k ≡ true)
+      ⊎ ((g : List Introduction) → IsDone (behind es g st.scope xs) k)
 
 record Bodied (ls : List Leaf) (xs : List Step) : Type 0 where
-  go : (es : List Entry) (st next : State) → steps_read st xs ≡ Ok next → Keeps next.entries es → AllByRecursion (HasLeaf st) ls → Walked es st xs next
+  go : (es : List Entry) (st next : State) → steps_read st xs ≡ Ok next → Keeps next.entries es
+      → AllByRecursion (HasLeaf st) ls → Walked es st xs next
 
-past_split : (es : List Entry) (scope : ℕ) (xs ys : List Step) → scope_past es scope (xs ++ ys) ≡ scope_past es (scope_past es scope xs) ys
+past_split : (es : List Entry) (scope : ℕ) (xs ys : List Step)
+    → scope_past es scope (xs ++ ys) ≡ scope_past es (scope_past es scope xs) ys
 past_split es scope [] ys = refl
 past_split es scope (x ∷ xs) ys = past_split es (scope_behind es scope x) xs ys
 
-both_walked : (es : List Entry) (st mid next : State) (xs ys : List Step) → Walked es st xs mid → Walked es mid ys next → Walked es st (xs ++ ys) next
+both_walked : (es : List Entry) (st mid next : State) (xs ys : List Step) → Walked es st xs mid → Walked es mid ys next
+    → Walked es st (xs ++ ys) next
 both_walked es st mid next xs ys a b = record {
   scope = b.scope ∙ a.scope;
   names = keeps_on st.entries mid.entries next.entries a.names b.names;
@@ -162,12 +201,14 @@ both_walked es st mid next xs ys a b = record {
 }
   where
     whole : (g : List Introduction) → behind es g st.scope (xs ++ ys) ≡ behind es (behind es g st.scope xs) mid.scope ys
-    whole g = behind_split es g st.scope xs ys ∙ ap (λ k. behind es (behind es g st.scope xs) k ys) (a.past ∙ sym a.scope)
+    whole g = behind_split es g st.scope xs ys
+        ∙ ap (λ k. behind es (behind es g st.scope xs) k ys) (a.past ∙ sym a.scope)
 
     first : (k : ℕ) → (is_defined st k ≡ true) ⊎ ((g : List Introduction) → IsDone (behind es g st.scope xs) k)
         → (is_defined st k ≡ true) ⊎ ((g : List Introduction) → IsDone (behind es g st.scope (xs ++ ys)) k)
     first k (inl before) = inl before
-    first k (inr done) = inr (λ g. subst (λ h. IsDone h k) (sym (whole g)) (done_stays es (behind es g st.scope xs) mid.scope ys k (done g)))
+    first k (inr done) = inr
+        (λ g. subst (λ h. IsDone h k) (sym (whole g)) (done_stays es (behind es g st.scope xs) mid.scope ys k (done g)))
 
     by : (k : ℕ) → (is_defined mid k ≡ true) ⊎ ((g : List Introduction) → IsDone (behind es g mid.scope ys) k)
         → (is_defined st k ≡ true) ⊎ ((g : List Introduction) → IsDone (behind es g st.scope (xs ++ ys)) k)
@@ -181,23 +222,34 @@ done_onto (x ∷ xs) g k (inl (inl here)) = done_onto xs (x ∷ g) k (inr (inl h
 done_onto (x ∷ xs) g k (inl (inr rest)) = done_onto xs (x ∷ g) k (inl rest)
 done_onto (x ∷ xs) g k (inr done) = done_onto xs (x ∷ g) k (inr (inr done))
 
-one_walked : (es : List Entry) (st next : State) (s : Step) → IsFlat s → step_read st s ≡ Ok next → Walked es st (s ∷ []) next
+one_walked : (es : List Entry) (st next : State) (s : Step) → IsFlat s → step_read st s ≡ Ok next
+    → Walked es st (s ∷ []) next
 one_walked es st next s flat h =
     let moves = flat_moves st next s flat h in
-    record { scope = moves.scope; names = moves.names; past = flat_behind es st.scope s flat; bodies = λ k d. by k (moves.bodies k d) }
+    record {
+      scope = moves.scope;
+      names = moves.names;
+      past = flat_behind es st.scope s flat;
+      bodies =
+          λ k d. by k (moves.bodies k d);
+    }
   where
-    by : (k : ℕ) → (is_defined st k ≡ true) ⊎ IsDone (introduced_by st.scope s) k → (is_defined st k ≡ true) ⊎ ((g : List Introduction) → IsDone (onto (introduced_by st.scope s) g) k)
+    by : (k : ℕ) → (is_defined st k ≡ true) ⊎ IsDone (introduced_by st.scope s) k → (is_defined st k ≡ true)
+        ⊎ ((g : List Introduction) → IsDone (onto (introduced_by st.scope s) g) k)
     by k (inl before) = inl before
     by k (inr done) = inr (λ g. done_onto (introduced_by st.scope s) g k (inl done))
 
-still_there : (st mid : State) → Keeps st.entries mid.entries → mid.scope ≡ st.scope → (l : Leaf) → HasLeaf st l → HasLeaf mid l
-still_there st mid names scope l (n, is) = (n, ap (λ k. named mid.entries k (word l)) scope ∙ names st.scope (word l) n is)
+still_there : (st mid : State) → Keeps st.entries mid.entries → mid.scope ≡ st.scope → (l : Leaf) → HasLeaf st l
+    → HasLeaf mid l
+still_there st mid names scope l (n, is) =
+    (n, ap (λ k. named mid.entries k (word l)) scope ∙ names st.scope (word l) n is)
 
 none : {ls : List Leaf} → Bodied ls []
 none = record {
   go = λ es st next h later there.
       let same : st ≡ next = cc in
-      subst (Walked es st []) same (record { scope = refl; names = λ scope name n is. is; past = refl; bodies = λ k d. inl d });
+      subst (Walked es st []) same
+      (record { scope = refl; names = λ scope name n is. is; past = refl; bodies = λ k d. inl d });
 }
 
 step_names : (st next : State) (s : Step) → step_read st s ≡ Ok next → Keeps st.entries next.entries
@@ -213,7 +265,8 @@ step_names st next s h = let moves = flat_moves st next s tt h in moves.names
 
 -- names are kept by all that is read
 names_kept : (st next : State) (xs : List Step) → steps_read st xs ≡ Ok next → Keeps st.entries next.entries
-names_kept st next [] h = let same : st ≡ next = cc in subst (λ x. Keeps st.entries x.entries) same (λ scope name n is. is)
+names_kept st next [] h = let same : st ≡ next = cc in
+    subst (λ x. Keeps st.entries x.entries) same (λ scope name n is. is)
 names_kept st next (s ∷ xs) h =
     let (mid, first, rest) = then_ok (step_read st s) (λ x. steps_read x xs) next h in
     keeps_on st.entries mid.entries next.entries (step_names st mid s first) (names_kept mid next xs rest)
@@ -237,7 +290,8 @@ one s flat = record {
 }
 
 -- steps behind a declaration
-declaring : {ls : List Leaf} {ys : List Step} (s : Step) (l : Leaf) → IsFlat s → ((st next : State) → step_read st s ≡ Ok next → HasLeaf next l) → Bodied (l ∷ ls) ys → Bodied ls (s ∷ ys)
+declaring : {ls : List Leaf} {ys : List Step} (s : Step) (l : Leaf) → IsFlat s
+    → ((st next : State) → step_read st s ≡ Ok next → HasLeaf next l) → Bodied (l ∷ ls) ys → Bodied ls (s ∷ ys)
 declaring {ls} {ys} s l flat has b = record {
   go = λ es st next h later there.
       let (mid, first, rest) = then_ok (step_read st s) (λ x. steps_read x ys) next h in
@@ -263,19 +317,24 @@ within {ls} {ys} l b = record {
       let inner_of : scope_of es st.scope l ≡ inner = ap scope_number in_whole ∙ sym inner_is in
       let outer : around es inner ≡ st.scope = ap (around es) inner_is ∙ around_named es st.scope (word l) n in_whole in
       let past : scope_past es (scope_of es st.scope l) (ys ++ Leaves ∷ []) ≡ st.scope =
-      ap (λ k. scope_past es k (ys ++ Leaves ∷ [])) inner_of ∙ past_split es inner ys (Leaves ∷ []) ∙ ap (around es) body.past ∙ outer in
-      let same_behind : (g : List Introduction) → behind es g st.scope (Enters l ∷ (ys ++ Leaves ∷ [])) ≡ behind es g inner ys =
+      ap (λ k. scope_past es k (ys ++ Leaves ∷ [])) inner_of ∙ past_split es inner ys (Leaves ∷ [])
+      ∙ ap (around es) body.past ∙ outer in
+      let same_behind : (g : List Introduction) → behind es g st.scope (Enters l ∷ (ys ++ Leaves ∷ []))
+      ≡ behind es g inner ys =
       λ g. ap (λ k. behind es g k (ys ++ Leaves ∷ [])) inner_of ∙ behind_split es g inner ys (Leaves ∷ []) in
       subst (Walked es st (Enters l ∷ (ys ++ Leaves ∷ []))) is (record {
-        scope = ap (around last.entries) (body.scope ∙ inner_is) ∙ around_named last.entries st.scope (word l) n in_last;
+        scope = ap (around last.entries) (body.scope ∙ inner_is)
+            ∙ around_named last.entries st.scope (word l) n in_last;
         names = body.names;
         past = past;
         bodies = λ k d. by es st inner ys (Enters l ∷ (ys ++ Leaves ∷ [])) k same_behind (body.bodies k d);
       });
 }
   where
-    by : (es : List Entry) (st : State) (inner : ℕ) (ys zs : List Step) (k : ℕ) → ((g : List Introduction) → behind es g st.scope zs ≡ behind es g inner ys)
-        → (is_defined st k ≡ true) ⊎ ((g : List Introduction) → IsDone (behind es g inner ys) k) → (is_defined st k ≡ true) ⊎ ((g : List Introduction) → IsDone (behind es g st.scope zs) k)
+    by : (es : List Entry) (st : State) (inner : ℕ) (ys zs : List Step) (k : ℕ)
+        → ((g : List Introduction) → behind es g st.scope zs ≡ behind es g inner ys)
+        → (is_defined st k ≡ true) ⊎ ((g : List Introduction) → IsDone (behind es g inner ys) k)
+        → (is_defined st k ≡ true) ⊎ ((g : List Introduction) → IsDone (behind es g st.scope zs) k)
     by es st inner ys zs k same (inl before) = inl before
     by es st inner ys zs k same (inr done) = inr (λ g. subst (λ h. IsDone h k) (sym (same g)) (done g))
 
@@ -285,9 +344,11 @@ declared_there kind l st next h =
     let (j, e, is, here, kind_is, name_is) = does.adds.holds.0 in
     (j, ap (λ k. named next.entries k (word l)) does.scope ∙ is)
 
-featured_there : (kind : EntryKind) (l : Leaf) (st next : State) → step_read st (DeclaresFeature kind l) ≡ Ok next → HasLeaf next l
+featured_there : (kind : EntryKind) (l : Leaf) (st next : State) → step_read st (DeclaresFeature kind l) ≡ Ok next
+    → HasLeaf next l
 featured_there kind l st next h =
-    let (u, free, rest) = then_ok (free_of st.entries l (inherited (features_of st.entries) l.number st.scope (word l))) (λ u. declared_plain kind st l) next h in
+    let (u, free, rest) = then_ok (free_of st.entries l (inherited (features_of st.entries) l.number st.scope (word l)))
+    (λ u. declared_plain kind st l) next h in
     declared_there kind l st next rest
 
 bodied : {ls : List Leaf} {ps : List Piece} {xs : List Step} → Asks ls ps xs → Bodied ls xs
@@ -299,50 +360,61 @@ bodied (base text id name) = one (HasBase id name) tt
 bodied (valued c a) = joined (bodied a) (joined (one (IsNew c.identifier) tt) (one (DeclaresConst c) tt))
 bodied (declared kind id a) = declaring (Declares kind id) id tt (declared_there kind id) (bodied a)
 bodied (featured kind id a) = declaring (DeclaresFeature kind id) id tt (featured_there kind id) (bodied a)
-bodied (undefined kind id a) = declaring (Declares kind id) id tt (declared_there kind id) (joined (one (IsUndefined id) tt) (bodied a))
+bodied (undefined kind id a) =
+    declaring (Declares kind id) id tt (declared_there kind id) (joined (one (IsUndefined id) tt) (bodied a))
 bodied (inside id a) = within id (bodied a)
 bodied (defines id a) = joined (one (Defines id) tt) (bodied a)
 
 -- ---- a whole specification
 
 -- none of the entries is left open
-none_left : (st : State) (place : ℕ) (es : List Entry) → never_defined (left_open st place es) ≡ Ok tt → (k : ℕ) (e : Entry) → slice_get es k ≡ Some e → has_body e.kind ≡ true
+none_left : (st : State) (place : ℕ) (es : List Entry) → never_defined (left_open st place es) ≡ Ok tt
+    → (k : ℕ) (e : Entry) → slice_get es k ≡ Some e → has_body e.kind ≡ true
     → is_defined st (suc (place + k)) ≡ true
 none_left st place [] h k e is body = absurd cc
-none_left st place (x ∷ es) h k e is body = by k (is_left_open st place x) refl h is (λ j there rest. none_left st (suc place) es rest j e there body)
+none_left st place (x ∷ es) h k e is body =
+    by k (is_left_open st place x) refl h is (λ j there rest. none_left st (suc place) es rest j e there body)
   where
     here : (a b : Bool) → (a && not b) ≡ false → a ≡ true → b ≡ true
     here true true h is = refl
     here true false h is = absurd cc
     here false b h is = absurd cc
 
-    by : (k : ℕ) (b : Bool) → is_left_open st place x ≡ b → (let t : Test = never_defined (if b then at_entry (Some x) else left_open st (suc place) es) in t) ≡ Ok tt → slice_get (x ∷ es) k ≡ Some e
-        → ((j : ℕ) → slice_get es j ≡ Some e → never_defined (left_open st (suc place) es) ≡ Ok tt → is_defined st (suc (suc place + j)) ≡ true)
+    by : (k : ℕ) (b : Bool) → is_left_open st place x ≡ b
+        → (let t : Test = never_defined (if b then at_entry (Some x) else left_open st (suc place) es) in t) ≡ Ok tt
+        → slice_get (x ∷ es) k ≡ Some e
+        → ((j : ℕ) → slice_get es j ≡ Some e → never_defined (left_open st (suc place) es) ≡ Ok tt
+        → is_defined st (suc (suc place + j)) ≡ true)
         → is_defined st (suc (place + k)) ≡ true
     by k true is_open h there rest = absurd cc
     by zero false is_open h there rest =
         let same : x ≡ e = cc in
         let first : place + 0 ≡ place = omega arith in
-        ap (λ n. is_defined st (suc n)) first ∙ here (has_body x.kind) (is_defined st (suc place)) is_open (ap (λ y. has_body y.kind) same ∙ body)
+        ap (λ n. is_defined st (suc n)) first
+        ∙ here (has_body x.kind) (is_defined st (suc place)) is_open (ap (λ y. has_body y.kind) same ∙ body)
     by (suc k) false is_open h there rest =
         let next : place + suc k ≡ suc place + k = omega arith in
         ap (λ n. is_defined st (suc n)) next ∙ rest k there h
 
-pub all_done : (definitions : List Definition) (names : FileNames) → AreNames definitions names → AllDone names.entries (behind names.entries [] 0 (steps_of definitions))
+pub all_done : (definitions : List Definition) (names : FileNames) → AreNames definitions names
+    → AllDone names.entries (behind names.entries [] 0 (steps_of definitions))
 all_done definitions names h =
     let (st, steps, test, is) = names_read definitions names h in
     let walk = bodied (all_ask definitions) in
-    let walked = walk.go names.entries nothing_yet st steps (λ scope name n there. ap (λ es. named es scope name) (sym is) ∙ there) tt in
+    let walked = walk.go names.entries nothing_yet st steps
+    (λ scope name n there. ap (λ es. named es scope name) (sym is) ∙ there) tt in
     λ e body.
     let (x, there, kind) = of_kind has_body (slice_get names.entries e) body in
     let at_e : slice_get st.entries e ≡ Some x = ap (λ es. slice_get es e) is ∙ there in
     let same : suc (0 + e) ≡ suc e = omega arith in
     by e walked (ap (is_defined st) (sym same) ∙ none_left st 0 st.entries test e x at_e kind)
   where
-    by : {st : State} (e : ℕ) → Walked names.entries nothing_yet (steps_of definitions) st → is_defined st (suc e) ≡ true → IsDone (behind names.entries [] 0 (steps_of definitions)) (suc e)
+    by : {st : State} (e : ℕ) → Walked names.entries nothing_yet (steps_of definitions) st
+        → is_defined st (suc e) ≡ true → IsDone (behind names.entries [] 0 (steps_of definitions)) (suc e)
     by e walked d = of (walked.bodies (suc e) d)
       where
-        of : (is_defined nothing_yet (suc e) ≡ true) ⊎ ((g : List Introduction) → IsDone (behind names.entries g 0 (steps_of definitions)) (suc e))
+        of : (is_defined nothing_yet (suc e) ≡ true)
+            ⊎ ((g : List Introduction) → IsDone (behind names.entries g 0 (steps_of definitions)) (suc e))
             → IsDone (behind names.entries [] 0 (steps_of definitions)) (suc e)
         of (inl before) = absurd cc
         of (inr done) = done []

@@ -39,13 +39,49 @@ no_places (suc n) (suc e) p is = no_places n e p is
 
 basic_right : (n : ℕ) (node : Node) → slice_get basic_nodes n ≡ Some node → IsRight basic_nodes node
 basic_right n node is =
-    inr (each_there (IsNode basic_nodes) basic_nodes n node
-    (tt, (tt, (tt, (tt, (tt, (tt, (tt, (tt, (tt, (omega arith, ((tt, omega arith), ((omega arith, of_two 6 10 tt tt), ((tt, omega arith), ((omega arith, of_two 9 12 tt tt), tt)))))))))))))) is)
+    inr (each_there (IsNode basic_nodes) basic_nodes n node (
+      tt,
+      (
+        tt,
+        (
+          tt,
+          (
+            tt,
+            (
+              tt,
+              (
+                tt,
+                (
+                  tt,
+                  (
+                    tt,
+                    (
+                      tt,
+                      (
+                        omega arith,
+                        (
+                          (tt, omega arith),
+                          (
+                            (omega arith, of_two 6 10 tt tt),
+                            ((tt, omega arith), ((omega arith, of_two 9 12 tt tt), tt)),
+                          ),
+                        ),
+                      ),
+                    ),
+                  ),
+                ),
+              ),
+            ),
+          ),
+        ),
+      ),
+    ) is)
   where
     of_two : (a b : ℕ) → IsPart basic_nodes a → IsPart basic_nodes b → AreMembers basic_nodes (a ∷ b ∷ [])
     of_two a b first second = record {
       limited = omega arith;
-      parts = All-cons (IsPart basic_nodes) a (b ∷ []) first (All-cons (IsPart basic_nodes) b [] second (All-nil (IsPart basic_nodes)));
+      parts = All-cons (IsPart basic_nodes) a (b ∷ []) first
+          (All-cons (IsPart basic_nodes) b [] second (All-nil (IsPart basic_nodes)));
     }
 
 first_keeps : (es : List Entry) → Keeps es [] nothing_begun (unlowered (length es))
@@ -87,22 +123,29 @@ first_all es = record {
 
 -- ---- a file
 
-pub file_fine : (es : List Entry) (based : AreBased es) (definitions : List Definition) → AllSettled es [] 0 (steps_of definitions)
+pub file_fine : (es : List Entry) (based : AreBased es) (definitions : List Definition)
+    → AllSettled es [] 0 (steps_of definitions)
     → Fine (KeepsAll es (behind es [] 0 (steps_of definitions))) (defined_by es definitions)
 file_fine es based definitions settled =
     each_keeps es (KeepsAll es) (definition es 0) definition_steps 0 definition_closed
-    (λ g d x s h. weaker (GoesAll es (behind es g 0 (definition_steps x)) d) (KeepsAll es (behind es g 0 (definition_steps x))) (definition es 0 d x) (λ b goes. goes.keeps)
+    (λ g d x s h. weaker (GoesAll es (behind es g 0 (definition_steps x)) d)
+    (KeepsAll es (behind es g 0 (definition_steps x))) (definition es 0 d x) (λ b goes. goes.keeps)
     (definition_fine es based g d 0 x h s)) [] (undefined_yet (length es)) definitions settled (first_all es)
 
 pub of_names_fine : (spec : Spec) (names : FileNames) → AreNames spec.definitions.items names
-    → Fine (KeepsAll names.entries (behind names.entries [] 0 (steps_of spec.definitions.items))) (defined_by names.entries spec.definitions.items)
+    → Fine (KeepsAll names.entries (behind names.entries [] 0 (steps_of spec.definitions.items)))
+    (defined_by names.entries spec.definitions.items)
 of_names_fine spec names h =
-    file_fine names.entries (bases_are_entries spec.definitions.items names h) spec.definitions.items (all_settled spec names h)
+    file_fine names.entries (bases_are_entries spec.definitions.items names h) spec.definitions.items
+    (all_settled spec names h)
 
-told : {A : Type 0} (P : A → Type 0) (r : Result A BuildFault) (fault : BuildFault) → Fine P r → r ≡ Err fault → IsOfTypes fault
+told : {A : Type 0} (P : A → Type 0) (r : Result A BuildFault) (fault : BuildFault) → Fine P r → r ≡ Err fault
+    → IsOfTypes fault
 told P (Ok x) fault h is = absurd cc
 told P (Err other) fault h is = let same : other ≡ fault = cc in subst IsOfTypes same h
 
-pub only_types : (spec : Spec) (names : FileNames) → AreNames spec.definitions.items names → (fault : BuildFault) → defined_by names.entries spec.definitions.items ≡ Err fault → IsOfTypes fault
+pub only_types : (spec : Spec) (names : FileNames) → AreNames spec.definitions.items names → (fault : BuildFault)
+    → defined_by names.entries spec.definitions.items ≡ Err fault → IsOfTypes fault
 only_types spec names h fault is =
-    told (KeepsAll names.entries (behind names.entries [] 0 (steps_of spec.definitions.items))) (defined_by names.entries spec.definitions.items) fault (of_names_fine spec names h) is
+    told (KeepsAll names.entries (behind names.entries [] 0 (steps_of spec.definitions.items)))
+    (defined_by names.entries spec.definitions.items) fault (of_names_fine spec names h) is

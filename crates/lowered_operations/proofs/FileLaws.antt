@@ -18,9 +18,12 @@ pub given_by : {A : Type 0} (P : A → Type 0) (r : Result A BuildFault) (x : A)
 given_by P (Ok y) x h is = let same : y ≡ x = cc in subst P same h
 given_by P (Err fault) x h is = absurd cc
 
-pub sound_lowered : (spec : Spec) (names : FileNames) → AreNames spec.definitions.items names → (d : Defined) → defined_by names.entries spec.definitions.items ≡ Ok d
+pub sound_lowered : (spec : Spec) (names : FileNames) → AreNames spec.definitions.items names → (d : Defined)
+    → defined_by names.entries spec.definitions.items ≡ Ok d
     → IsSoundFile (length names.entries) d
 sound_lowered spec names h d is =
     let g = behind names.entries [] 0 (steps_of spec.definitions.items) in
-    file_sound names.entries g d (given_by (KeepsAll names.entries g) (defined_by names.entries spec.definitions.items) d (of_names_fine spec names h) is)
+    file_sound names.entries g d
+    (given_by (KeepsAll names.entries g) (defined_by names.entries spec.definitions.items) d
+    (of_names_fine spec names h) is)
     (all_done spec.definitions.items names h)

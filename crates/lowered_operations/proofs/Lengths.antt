@@ -9,7 +9,8 @@ use Rattle.idl_tree.specs.DefinitionYields.{definition_yield}
 use Rattle.idl_tree.proofs.Modules.{module_yields}
 
 -- what a module spells between its braces
-pub module_length : (m : ModuleRecord) → length (flat_map definition_yield m.definitions.items) < length (definition_yield (Module m))
+pub module_length : (m : ModuleRecord)
+    → length (flat_map definition_yield m.definitions.items) < length (definition_yield (Module m))
 unfolding piece
 module_length m =
     let inner = flat_map definition_yield m.definitions.items in

@@ -21,23 +21,27 @@ range_more xs ys all k e lt pushed told =
     ∙ sym (ap (λ y. xs ++ y) (range_step k e lt)) ∙ told
 
 -- one base more, of those over which a fold goes
-pub step_more : (step : List ℕ → Base → List ℕ) (bases : List Base) (k : ℕ) (b : Base) (old new all : List ℕ) → slice_get bases k ≡ Some b
+pub step_more : (step : List ℕ → Base → List ℕ) (bases : List Base) (k : ℕ) (b : Base) (old new all : List ℕ)
+    → slice_get bases k ≡ Some b
     → new ≡ step old b → fold step old (drop k bases) ≡ all → fold step new (drop (k + 1) bases) ≡ all
 step_more step bases k b old new all there told left =
     let split = split_at bases k b (slice_get_within bases k b there) (sym (get_or_from_slice_get bases k b b there)) in
     ap (λ t. fold step t (drop (k + 1) bases)) told ∙ sym (ap (fold step old) split) ∙ left
 
 -- the operations of one base more
-pub base_more : (d : Defined) (bases : List Base) (k : ℕ) (b : Base) (old new more all : List ℕ) → slice_get bases k ≡ Some b
+pub base_more : (d : Defined) (bases : List Base) (k : ℕ) (b : Base) (old new more all : List ℕ)
+    → slice_get bases k ≡ Some b
     → more ≡ operations_of d b.entry → new ≡ fold with_once old more → fold (with_base d) old (drop k bases) ≡ all
     → fold (with_base d) new (drop (k + 1) bases) ≡ all
 base_more d bases k b old new more all there gives told left =
     step_more (with_base d) bases k b old new all there (told ∙ ap (fold with_once old) gives) left
 
 -- one base more and what it inherits from
-pub above_more : (d : Defined) (bases : List Base) (k : ℕ) (b : Base) (old mid new more all : List ℕ) → slice_get bases k ≡ Some b
+pub above_more : (d : Defined) (bases : List Base) (k : ℕ) (b : Base) (old mid new more all : List ℕ)
+    → slice_get bases k ≡ Some b
     → mid ≡ with_once old b.entry → more ≡ all_bases_of d b.entry → new ≡ fold with_once mid more
-    → fold (with_base_and_above d) old (drop k bases) ≡ all → fold (with_base_and_above d) new (drop (k + 1) bases) ≡ all
+    → fold (with_base_and_above d) old (drop k bases) ≡ all
+    → fold (with_base_and_above d) new (drop (k + 1) bases) ≡ all
 above_more d bases k b old mid new more all there inserted gives told left =
     step_more (with_base_and_above d) bases k b old new all there
     (told ∙ ap (fold with_once mid) gives ∙ ap (λ m. fold with_once m (all_bases_of d b.entry)) inserted) left

@@ -29,14 +29,17 @@ use Rattle.lowered_operations.specs.Operations.{Defined, exception_found, except
 -- ---- oneway operations
 
 -- one that answers something
-pub answers : (es : List Entry) (scope : ℕ) (d : Defined) (o : Operation) (answer : Answer) → o.is_oneway ≡ true → answer_of o ≡ Some answer
+pub answers : (es : List Entry) (scope : ℕ) (d : Defined) (o : Operation) (answer : Answer) → o.is_oneway ≡ true
+    → answer_of o ≡ Some answer
     → operation es scope d o ≡ Err (Types (BadOneway (leaf_at o.identifier) answer))
 answers es scope d o answer oneway is =
     let fault = Types (BadOneway (leaf_at o.identifier) answer) in
-    let told : oneway_test o ≡ Err fault = ap (λ b. if b then answer_test o (answer_of o) else Ok tt) oneway ∙ ap (answer_test o) is in
+    let told : oneway_test o ≡ Err fault = ap (λ b. if b then answer_test o (answer_of o) else Ok tt) oneway
+    ∙ ap (answer_test o) is in
     stops (oneway_test o) fault _ told
 
-pub has_result : (es : List Entry) (scope : ℕ) (d : Defined) (o : Operation) (t : ParamType) → o.is_oneway ≡ true → o.result_type ≡ Some t
+pub has_result : (es : List Entry) (scope : ℕ) (d : Defined) (o : Operation) (t : ParamType) → o.is_oneway ≡ true
+    → o.result_type ≡ Some t
     → operation es scope d o ≡ Err (Types (BadOneway (leaf_at o.identifier) ResultAnswer))
 has_result es scope d o t oneway is =
     answers es scope d o ResultAnswer oneway
@@ -48,29 +51,38 @@ behind_some None behind = (behind, refl)
 behind_some (Some answer) behind = (answer, refl)
 
 -- a parameter isn't an `in` one
-pub has_out : (es : List Entry) (scope : ℕ) (d : Defined) (o : Operation) (p : Answer) → o.is_oneway ≡ true → param_answer (parts_of o.params) ≡ Some p
+pub has_out : (es : List Entry) (scope : ℕ) (d : Defined) (o : Operation) (p : Answer) → o.is_oneway ≡ true
+    → param_answer (parts_of o.params) ≡ Some p
     → (answer : Answer) × (operation es scope d o ≡ Err (Types (BadOneway (leaf_at o.identifier) answer)))
 has_out es scope d o p oneway is =
-    let (answer, some) = behind_some (result_answer o.result_type) p in
-    (answer, answers es scope d o answer oneway (ap (λ r. option_or (result_answer o.result_type) (option_or r (raises_answer o.raises))) is ∙ some))
+    let (answer, some) = behind_some (result_answer o.result_type) p in (
+      answer,
+      answers es scope d o answer oneway
+          (ap (λ r. option_or (result_answer o.result_type) (option_or r (raises_answer o.raises))) is ∙ some),
+    )
 
-pub has_raises : (es : List Entry) (scope : ℕ) (d : Defined) (o : Operation) (names : Listed ScopedName) → o.is_oneway ≡ true → o.raises ≡ Some names
+pub has_raises : (es : List Entry) (scope : ℕ) (d : Defined) (o : Operation) (names : Listed ScopedName)
+    → o.is_oneway ≡ true → o.raises ≡ Some names
     → (answer : Answer) × (operation es scope d o ≡ Err (Types (BadOneway (leaf_at o.identifier) answer)))
 has_raises es scope d o names oneway is =
     let (inner, some_inner) = behind_some (param_answer (parts_of o.params)) Exceptions in
     let (answer, some) = behind_some (result_answer o.result_type) inner in (
       answer,
       answers es scope d o answer oneway
-          (ap (λ r. option_or (result_answer o.result_type) (option_or (param_answer (parts_of o.params)) (raises_answer r))) is
+          (ap (λ r. option_or (result_answer o.result_type)
+          (option_or (param_answer (parts_of o.params)) (raises_answer r))) is
           ∙ ap (option_or (result_answer o.result_type)) some_inner ∙ some),
     )
 
 -- a oneway operation that is lowered answers nothing
-pub oneway_kept : (es : List Entry) (scope : ℕ) (d behind : Defined) (o : Operation) → operation es scope d o ≡ Ok behind → o.is_oneway ≡ true
+pub oneway_kept : (es : List Entry) (scope : ℕ) (d behind : Defined) (o : Operation)
+    → operation es scope d o ≡ Ok behind → o.is_oneway ≡ true
     → answer_of o ≡ None
 oneway_kept es scope d behind o lowered oneway = by (answer_of o) (λ answer. answers es scope d o answer oneway)
   where
-    by : (a : Option Answer) → ((answer : Answer) → a ≡ Some answer → operation es scope d o ≡ Err (Types (BadOneway (leaf_at o.identifier) answer))) → a ≡ None
+    by : (a : Option Answer)
+        → ((answer : Answer) → a ≡ Some answer → operation es scope d o
+        ≡ Err (Types (BadOneway (leaf_at o.identifier) answer))) → a ≡ None
     by None refused = refl
     by (Some answer) refused = let told = refused answer refl in absurd cc
 
@@ -78,7 +90,8 @@ oneway_kept es scope d behind o lowered oneway = by (answer_of o) (λ answer. an
 
 -- a type in the place of an exception
 pub no_exception : (es : List Entry) (w : Lowered) (scope : ℕ) (name : ScopedName) (names : List ScopedName) (e n : ℕ)
-    → entry_found es scope name ≡ Ok e → place_of w e ≡ Some (Typed n) → raised es w scope (name ∷ names) ≡ Err OtherNames
+    → entry_found es scope name ≡ Ok e → place_of w e ≡ Some (Typed n)
+    → raised es w scope (name ∷ names) ≡ Err OtherNames
 no_exception es w scope name names e n found is =
     stops (with_exception es w scope [] name) OtherNames _
     (stops (exception_found es w scope name) OtherNames _
@@ -87,7 +100,8 @@ no_exception es w scope name names e n found is =
 -- ---- frames
 
 -- one type more than a reply may carry
-pub full_reply : (c : Carried) (name : List ℕ) (number : ℕ) (at : At) → nat_lt max_members (length c.reply.numbers + 1) ≡ true
+pub full_reply : (c : Carried) (name : List ℕ) (number : ℕ) (at : At)
+    → nat_lt max_members (length c.reply.numbers + 1) ≡ true
     → with_carried c name Out number at ≡ Err (limit MembersLimit max_members at)
 full_reply c name number at full =
     let fault = limit MembersLimit max_members at in

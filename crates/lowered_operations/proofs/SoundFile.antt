@@ -24,18 +24,22 @@ AllDone es g = (e : ℕ) → HasBody es e → IsDone g (suc e)
 all_there : {T : Type 0} (P : T → Type 0) (xs : List T) → ((k : ℕ) (x : T) → slice_get xs k ≡ Some x → P x) → All P xs
 all_there P xs h = λ k d lt. h k (get_or xs k d) (slice_get-get_or xs k d lt)
 
-node_defined : (es : List Entry) (g : List Introduction) (w : Lowered) → Keeps es g nothing_begun w → AllDone es g → (n : ℕ) (node : Node) → slice_get w.nodes n ≡ Some node
+node_defined : (es : List Entry) (g : List Introduction) (w : Lowered) → Keeps es g nothing_begun w → AllDone es g
+    → (n : ℕ) (node : Node) → slice_get w.nodes n ≡ Some node
     → IsRight w.nodes node → IsNode w.nodes node
 node_defined es g w i done n node is (inr right) = right
 node_defined es g w i done n node is (inl open_yet) =
     let left = i.left n (is ∙ ap Some open_yet) in
     absurd (left.again (done left.entry left.body))
 
-place_sound : (w : Lowered) (o : Option Place) → ((p : Place) → o ≡ Some p → IsPlaceAmong w.nodes (length w.exceptions) p) → IfSome o (IsPlaceAmong w.nodes (length w.exceptions))
+place_sound : (w : Lowered) (o : Option Place)
+    → ((p : Place) → o ≡ Some p → IsPlaceAmong w.nodes (length w.exceptions) p)
+    → IfSome o (IsPlaceAmong w.nodes (length w.exceptions))
 place_sound w None h = tt
 place_sound w (Some p) h = h p refl
 
-exception_sound : (es : List Entry) (g : List Introduction) (w : Lowered) → Keeps es g nothing_begun w → (k : ℕ) (x : ℕ × ℕ) → slice_get w.exceptions k ≡ Some x
+exception_sound : (es : List Entry) (g : List Introduction) (w : Lowered) → Keeps es g nothing_begun w
+    → (k : ℕ) (x : ℕ × ℕ) → slice_get w.exceptions k ≡ Some x
     → IsSoundException (length es) w x
 exception_sound es g w i k x is =
     let h = i.exceptions k x is in
@@ -43,7 +47,8 @@ exception_sound es g w i k x is =
     let long = i.long in
     record { entry = omega (arith, within, long); frame = h.frame; named = (k, ap place_in h.place) }
 
-pub file_sound : (es : List Entry) (g : List Introduction) (d : Defined) → KeepsAll es g d → AllDone es g → IsSoundFile (length es) d
+pub file_sound : (es : List Entry) (g : List Introduction) (d : Defined) → KeepsAll es g d → AllDone es g
+    → IsSoundFile (length es) d
 file_sound es g d h done =
     let i = h.types_kept in
     let w = d.types in
@@ -53,12 +58,14 @@ file_sound es g d h done =
     record {
       types_sound = record {
         limited = s.limited;
-        nodes = all_there (IsNode w.nodes) w.nodes (λ n node is. node_defined es g w i done n node is (s.nodes n node is));
+        nodes = all_there (IsNode w.nodes) w.nodes
+            (λ n node is. node_defined es g w i done n node is (s.nodes n node is));
         members = omega (arith, counted, members);
         sites = s.sites;
       };
       places_long = i.long;
-      places = all_there (λ p. IfSome p (IsPlaceAmong w.nodes (length w.exceptions))) w.places (λ e o is. place_sound w o (λ p same. i.right e p (is ∙ ap Some same)));
+      places = all_there (λ p. IfSome p (IsPlaceAmong w.nodes (length w.exceptions))) w.places
+          (λ e o is. place_sound w o (λ p same. i.right e p (is ∙ ap Some same)));
       exceptions_few = s.exceptions;
       exceptions = all_there (IsSoundException (length es) w) w.exceptions (exception_sound es g w i);
       operations_few = h.few;

@@ -14,8 +14,7 @@ use indexmap::IndexSet;
 use lowered_types::{BuildFault, Place, declared_entry};
 use scoped_names::{Names, Scope};
 use std::alloc::Global;
-use type_graph::Items;
-use type_graph::basic_types;
+use type_graph::{Items, basic_types};
 
 /// The identifier of an interface.
 fn identifier_of<'a>(interface: &Interface<'a>) -> Leaf<'a>

@@ -32,7 +32,8 @@ use Rattle.name_table.proofs.Stability.{get_push_last}
 
 -- ---- basic types have their definitions
 
-pub each_there : {T : Type 0} (P : T → Type 0) (xs : List T) (k : ℕ) (x : T) → AllByRecursion P xs → slice_get xs k ≡ Some x → P x
+pub each_there : {T : Type 0} (P : T → Type 0) (xs : List T) (k : ℕ) (x : T) → AllByRecursion P xs
+    → slice_get xs k ≡ Some x → P x
 each_there P [] k x h is = absurd cc
 each_there P (y ∷ ys) zero x (h, hs) is = let same : y ≡ x = cc in subst P same h
 each_there P (y ∷ ys) (suc k) x (h, hs) is = each_there P ys k x hs is
@@ -43,7 +44,19 @@ IsDefined node = is_undefined (Some node) ≡ false
 pub basic_defined : (n : ℕ) (node : Node) → slice_get basic_nodes n ≡ Some node → node ≡ undefined → ⊥
 basic_defined n node is same =
     let told : is_undefined (Some node) ≡ false =
-    each_there IsDefined basic_nodes n node (refl, (refl, (refl, (refl, (refl, (refl, (refl, (refl, (refl, (refl, (refl, (refl, (refl, (refl, tt)))))))))))))) is in
+    each_there IsDefined basic_nodes n node (
+      refl,
+      (
+        refl,
+        (
+          refl,
+          (
+            refl,
+            (refl, (refl, (refl, (refl, (refl, (refl, (refl, (refl, (refl, (refl, tt)))))))))),
+          ),
+        ),
+      ),
+    ) is in
     let not_so : is_undefined (Some node) ≡ true = ap (λ k. is_undefined (Some k)) same in
     cc
 
@@ -53,8 +66,10 @@ basic_defined n node is same =
 abbrev pub with_open : Lowered → ℕ → Sites → Lowered
 with_open w e sites = record (with_node w undefined [] sites) { places = slice_set w.places e (Some (Typed (next w))) }
 
-pub open_kept : (es : List Entry) (g more : List Introduction) (begun : ℕ → Type 0) (w : Lowered) (e : ℕ) (x : Entry) (sites : Sites)
-    → Keeps es g begun w → Widens es g e more → slice_get w.places e ≡ Some None → slice_get es e ≡ Some x → has_body x.kind ≡ true
+pub open_kept : (es : List Entry) (g more : List Introduction) (begun : ℕ → Type 0) (w : Lowered) (e : ℕ) (x : Entry)
+    (sites : Sites)
+    → Keeps es g begun w → Widens es g e more → slice_get w.places e ≡ Some None → slice_get es e ≡ Some x
+    → has_body x.kind ≡ true
     → (Known es g e → ⊥) → next w + 1 ≤ max_nodes → Keeps es more begun (with_open w e sites)
 open_kept es g more begun w e x sites i widens none at body new fits =
     let s = i.sound in
@@ -68,25 +83,38 @@ open_kept es g more begun w e x sites i widens none at body new fits =
       begun_done = λ f b has. widens.done (suc f) (i.begun_done f b has);
       done_known = λ f done. widens.grows f (i.done_known f (widens.undone (suc f) done));
       unplaced = λ f y b there.
-          subst (IsUnplaced y.kind) (sym (set_other w.places e f (Some (Typed (next w))) (λ same. new (i.begun_known e (subst begun same b))))) (i.unplaced f y b there);
+          subst (IsUnplaced y.kind)
+          (sym (set_other w.places e f (Some (Typed (next w)))
+          (λ same. new (i.begun_known e (subst begun same b))))) (i.unplaced f y b there);
       right = λ f q is. right_at f q (cases f q is);
       exceptions = λ k y is. exception k y (i.exceptions k y is);
-      one = λ f h n one other first second. same_entry f h n one other (cases f (Typed n) first) (cases h (Typed n) second);
+      one = λ f h n one other first second. same_entry f h n one other (cases f (Typed n) first)
+          (cases h (Typed n) second);
       ahead = λ f n has place yet. ahead f n has yet (cases f (Typed n) place);
       left = λ n is. left n (push_cases w.nodes undefined n undefined is);
       basic = λ n old is. push_low w.nodes undefined n old (i.basic n old is);
-      sound = record { limited = sound.limited; nodes = sound.nodes; counted = sound.counted; members = sound.members; sites = sound.sites; exceptions = sound.exceptions };
+      sound = record {
+        limited = sound.limited;
+        nodes = sound.nodes;
+        counted = sound.counted;
+        members =
+            sound.members;
+        sites = sound.sites;
+        exceptions = sound.exceptions;
+      };
     }
   where
     cases : (f : ℕ) (q : Place) → slice_get (slice_set w.places e (Some (Typed (next w)))) f ≡ Some (Some q)
         → ((f ≡ e) × (Some (Typed (next w)) ≡ Some q)) ⊎ ((f ≡ e → ⊥) × (slice_get w.places f ≡ Some (Some q)))
     cases f q is = set_cases w.places e None (Some (Typed (next w))) f (Some q) none is
 
-    known : (f : ℕ) (q : Place) → ((f ≡ e) × (Some (Typed (next w)) ≡ Some q)) ⊎ ((f ≡ e → ⊥) × (slice_get w.places f ≡ Some (Some q))) → Known es more f
+    known : (f : ℕ) (q : Place) → ((f ≡ e) × (Some (Typed (next w)) ≡ Some q))
+        ⊎ ((f ≡ e → ⊥) × (slice_get w.places f ≡ Some (Some q))) → Known es more f
     known f q (inl (same, is)) = subst (Known es more) (sym same) widens.here
     known f q (inr (differs, is)) = widens.grows f (i.known f q is)
 
-    typed : (kind : EntryKind) (b : Type 0) (o : Option (Option Place)) → has_body kind ≡ true → HasType o → HasPlace kind b o
+    typed : (kind : EntryKind) (b : Type 0) (o : Option (Option Place)) → has_body kind ≡ true → HasType o
+        → HasPlace kind b o
     typed Kinds.Struct b o is h = h
     typed Kinds.Union b o is h = h
     typed kind b o is h = absurd cc
@@ -96,28 +124,37 @@ open_kept es g more begun w e x sites i widens none at body new fits =
     has_place f y there knows (inl same) =
         let here : slice_get es e ≡ Some y = subst (λ k. slice_get es k ≡ Some y) same there in
         let one : x ≡ y = cc in
-        let set : slice_get (slice_set w.places e (Some (Typed (next w)))) e ≡ Some (Some (Typed (next w))) = set_here w.places e None (Some (Typed (next w))) none in
-        typed y.kind (begun f) (slice_get (slice_set w.places e (Some (Typed (next w)))) f) (subst (λ z. has_body z.kind ≡ true) one body)
+        let set : slice_get (slice_set w.places e (Some (Typed (next w)))) e ≡ Some (Some (Typed (next w))) =
+        set_here w.places e None (Some (Typed (next w))) none in
+        typed y.kind (begun f) (slice_get (slice_set w.places e (Some (Typed (next w)))) f)
+        (subst (λ z. has_body z.kind ≡ true) one body)
         (next w, ap (slice_get (slice_set w.places e (Some (Typed (next w))))) same ∙ set)
     has_place f y there knows (inr differs) =
-        subst (λ o. HasPlace y.kind (begun f) o) (sym (set_other w.places e f (Some (Typed (next w))) differs)) (i.has f y (old (widens.only f knows)) there)
+        subst (λ o. HasPlace y.kind (begun f) o) (sym (set_other w.places e f (Some (Typed (next w))) differs))
+        (i.has f y (old (widens.only f knows)) there)
       where
         old : (f ≡ e) ⊎ Known es g f → Known es g f
         old (inl same) = absurd (differs same)
         old (inr knows) = knows
 
     part_there : IsPart (w.nodes ++ undefined ∷ []) (next w)
-    part_there = is_some_and (slice_get (w.nodes ++ undefined ∷ []) (next w)) IsNoFrame undefined (get_push_last w.nodes undefined) tt
+    part_there = is_some_and (slice_get (w.nodes ++ undefined ∷ []) (next w)) IsNoFrame undefined
+        (get_push_last w.nodes undefined) tt
 
-    right_at : (f : ℕ) (q : Place) → ((f ≡ e) × (Some (Typed (next w)) ≡ Some q)) ⊎ ((f ≡ e → ⊥) × (slice_get w.places f ≡ Some (Some q)))
+    right_at : (f : ℕ) (q : Place) → ((f ≡ e) × (Some (Typed (next w)) ≡ Some q))
+        ⊎ ((f ≡ e → ⊥) × (slice_get w.places f ≡ Some (Some q)))
         → IsPlaceAmong (w.nodes ++ undefined ∷ []) (length w.exceptions) q
-    right_at f q (inl (same, is)) = let one : Typed (next w) ≡ q = cc in subst (IsPlaceAmong (w.nodes ++ undefined ∷ []) (length w.exceptions)) one part_there
+    right_at f q (inl (same, is)) = let one : Typed (next w) ≡ q = cc in
+        subst (IsPlaceAmong (w.nodes ++ undefined ∷ []) (length w.exceptions)) one part_there
     right_at f q (inr (differs, is)) =
-        place_stays w.nodes (w.nodes ++ undefined ∷ []) (length w.exceptions) (length w.exceptions) (push_grows w.nodes undefined) (le_refl (length w.exceptions)) q (i.right f q is)
+        place_stays w.nodes (w.nodes ++ undefined ∷ []) (length w.exceptions) (length w.exceptions)
+        (push_grows w.nodes undefined) (le_refl (length w.exceptions)) q (i.right f q is)
 
-    exception : (k : ℕ) (y : ℕ × ℕ) → IsException w.places w.nodes k y → IsException (slice_set w.places e (Some (Typed (next w)))) (w.nodes ++ undefined ∷ []) k y
+    exception : (k : ℕ) (y : ℕ × ℕ) → IsException w.places w.nodes k y
+        → IsException (slice_set w.places e (Some (Typed (next w)))) (w.nodes ++ undefined ∷ []) k y
     exception k y old = record {
-      place = set_other w.places e y.0 (Some (Typed (next w))) (λ same. new (subst (Known es g) same (i.known y.0 (Raised y.1 k) old.place))) ∙ old.place;
+      place = set_other w.places e y.0 (Some (Typed (next w)))
+          (λ same. new (subst (Known es g) same (i.known y.0 (Raised y.1 k) old.place))) ∙ old.place;
       frame = id_stays w.nodes (w.nodes ++ undefined ∷ []) (push_grows w.nodes undefined) y.1 old.frame;
     }
 
@@ -132,30 +169,40 @@ open_kept es g more begun w e x sites i widens none at body new fits =
         of_part None h = absurd h
         of_part (Some node) h = (node, refl)
 
-    same_entry : (f h n : ℕ) → HasBody es f → HasBody es h → ((f ≡ e) × (Some (Typed (next w)) ≡ Some (Typed n))) ⊎ ((f ≡ e → ⊥) × (slice_get w.places f ≡ Some (Some (Typed n))))
-        → ((h ≡ e) × (Some (Typed (next w)) ≡ Some (Typed n))) ⊎ ((h ≡ e → ⊥) × (slice_get w.places h ≡ Some (Some (Typed n)))) → f ≡ h
+    same_entry : (f h n : ℕ) → HasBody es f → HasBody es h → ((f ≡ e) × (Some (Typed (next w)) ≡ Some (Typed n)))
+        ⊎ ((f ≡ e → ⊥) × (slice_get w.places f ≡ Some (Some (Typed n))))
+        → ((h ≡ e) × (Some (Typed (next w)) ≡ Some (Typed n)))
+        ⊎ ((h ≡ e → ⊥) × (slice_get w.places h ≡ Some (Some (Typed n)))) → f ≡ h
     same_entry f h n one other (inl (first, is)) (inl (second, is_too)) = first ∙ sym second
-    same_entry f h n one other (inl (first, is)) (inr (differs, there)) = let same : n ≡ next w = cc in absurd (beyond h n there same)
-    same_entry f h n one other (inr (differs, there)) (inl (second, is)) = let same : n ≡ next w = cc in absurd (beyond f n there same)
-    same_entry f h n one other (inr (differs, there)) (inr (differs_too, there_too)) = i.one f h n one other there there_too
+    same_entry f h n one other (inl (first, is)) (inr (differs, there)) = let same : n ≡ next w = cc in
+        absurd (beyond h n there same)
+    same_entry f h n one other (inr (differs, there)) (inl (second, is)) = let same : n ≡ next w = cc in
+        absurd (beyond f n there same)
+    same_entry f h n one other (inr (differs, there)) (inr (differs_too, there_too)) =
+        i.one f h n one other there there_too
 
-    ahead : (f n : ℕ) → HasBody es f → (IsDone more (suc f) → ⊥) ⊎ begun f → ((f ≡ e) × (Some (Typed (next w)) ≡ Some (Typed n))) ⊎ ((f ≡ e → ⊥) × (slice_get w.places f ≡ Some (Some (Typed n))))
+    ahead : (f n : ℕ) → HasBody es f → (IsDone more (suc f) → ⊥) ⊎ begun f
+        → ((f ≡ e) × (Some (Typed (next w)) ≡ Some (Typed n)))
+        ⊎ ((f ≡ e → ⊥) × (slice_get w.places f ≡ Some (Some (Typed n))))
         → slice_get (w.nodes ++ undefined ∷ []) n ≡ Some undefined
-    ahead f n has yet (inl (same, is)) = let number : n ≡ next w = cc in ap (slice_get (w.nodes ++ undefined ∷ [])) number ∙ get_push_last w.nodes undefined
+    ahead f n has yet (inl (same, is)) = let number : n ≡ next w = cc in
+        ap (slice_get (w.nodes ++ undefined ∷ [])) number ∙ get_push_last w.nodes undefined
     ahead f n has yet (inr (differs, is)) = push_low w.nodes undefined n undefined (i.ahead f n has is (not_yet yet))
       where
         not_yet : (IsDone more (suc f) → ⊥) ⊎ begun f → (IsDone g (suc f) → ⊥) ⊎ begun f
         not_yet (inl never) = inl (λ done. never (widens.done (suc f) done))
         not_yet (inr b) = inr b
 
-    left : (n : ℕ) → (slice_get w.nodes n ≡ Some undefined) ⊎ ((n ≡ length w.nodes) × (undefined ≡ undefined)) → IsLeft es more begun (slice_set w.places e (Some (Typed (next w)))) n
+    left : (n : ℕ) → (slice_get w.nodes n ≡ Some undefined) ⊎ ((n ≡ length w.nodes) × (undefined ≡ undefined))
+        → IsLeft es more begun (slice_set w.places e (Some (Typed (next w)))) n
     left n (inl is) = old (i.left n is)
       where
         old : IsLeft es g begun w.places n → IsLeft es more begun (slice_set w.places e (Some (Typed (next w)))) n
         old l = record {
           entry = l.entry;
           body = l.body;
-          place = set_other w.places e l.entry (Some (Typed (next w))) (λ same. new (subst (Known es g) same (i.known l.entry (Typed n) l.place))) ∙ l.place;
+          place = set_other w.places e l.entry (Some (Typed (next w)))
+              (λ same. new (subst (Known es g) same (i.known l.entry (Typed n) l.place))) ∙ l.place;
           again = λ done. l.again (widens.undone (suc l.entry) done);
         }
     left n (inr (same, is)) = record {
@@ -165,7 +212,8 @@ open_kept es g more begun w e x sites i widens none at body new fits =
       again = λ done. absurd (new (i.done_known e (widens.undone (suc e) done)));
     }
 
-pub open_later : (w : Lowered) (e : ℕ) (sites : Sites) → slice_get w.places e ≡ Some None → Later w (with_open w e sites)
+pub open_later : (w : Lowered) (e : ℕ) (sites : Sites) → slice_get w.places e ≡ Some None
+    → Later w (with_open w e sites)
 open_later w e sites none = record {
   nodes = push_grows w.nodes undefined;
   places = (place_later w e (Typed (next w)) w.exceptions none (le_refl (length w.exceptions))).places;
@@ -177,17 +225,25 @@ open_later w e sites none = record {
 pub held_long : (sites : List Sites) (number : ℕ) (held : List At) → length (held_at sites number held) ≡ length sites
 held_long sites number held = by (nat_lt number 14) (slice_get sites (number - 14))
   where
-    by : (b : Bool) (o : Option Sites) → length (if b then sites else with_held sites (number - 14) held o) ≡ length sites
+    by : (b : Bool) (o : Option Sites) → length (if b then sites else with_held sites (number - 14) held o)
+        ≡ length sites
     by true o = refl
     by false None = refl
     by false (Some l) = length-set sites (number - 14) (record { at = l.at; held = held })
 
 abbrev pub with_defined : Lowered → ℕ → Node → List (List ℕ) → List At → Lowered
 with_defined w number node names held =
-    record w { nodes = slice_set w.nodes number node; names = slice_set w.names number names; sites = held_at w.sites number held }
+    record w {
+      nodes = slice_set w.nodes number node;
+      names = slice_set w.names number names;
+      sites =
+          held_at w.sites number held;
+    }
 
-pub define_kept : (es : List Entry) (g : List Introduction) (begun : ℕ → Type 0) (w : Lowered) (e number : ℕ) (node : Node) (names : List (List ℕ)) (held : List At)
-    → Keeps es g (with_begun e begun) w → HasBody es e → slice_get w.places e ≡ Some (Some (Typed number)) → (begun e → ⊥) → IsDone g (suc e)
+pub define_kept : (es : List Entry) (g : List Introduction) (begun : ℕ → Type 0) (w : Lowered) (e number : ℕ)
+    (node : Node) (names : List (List ℕ)) (held : List At)
+    → Keeps es g (with_begun e begun) w → HasBody es e → slice_get w.places e ≡ Some (Some (Typed number))
+    → (begun e → ⊥) → IsDone g (suc e)
     → IsNode w.nodes node → (node ≡ undefined → ⊥) → IsNoFrame node → all_members w.nodes + members_in node ≤ w.members
     → Keeps es g begun (with_defined w number node names held)
 define_kept es g begun w e number node names held i body place ended done right defined plain room =
@@ -202,8 +258,10 @@ define_kept es g begun w e number node names held i body place ended done right 
       begun_done = λ f b has. i.begun_done f (inr b) has;
       done_known = i.done_known;
       unplaced = λ f y b there. i.unplaced f y (inr b) there;
-      right = λ f q is. place_stays w.nodes later (length w.exceptions) (length w.exceptions) grows (le_refl (length w.exceptions)) q (i.right f q is);
-      exceptions = λ k y is. let old = i.exceptions k y is in record { place = old.place; frame = id_stays w.nodes later grows y.1 old.frame };
+      right = λ f q is. place_stays w.nodes later (length w.exceptions) (length w.exceptions) grows
+          (le_refl (length w.exceptions)) q (i.right f q is);
+      exceptions = λ k y is. let old = i.exceptions k y is in
+          record { place = old.place; frame = id_stays w.nodes later grows y.1 old.frame };
       one = i.one;
       ahead = λ f n has there yet. ahead f n has there yet;
       left = λ n is. left n (set_cases w.nodes number undefined node n undefined open_yet is);
@@ -211,14 +269,17 @@ define_kept es g begun w e number node names held i body place ended done right 
       sound = record {
         limited = let long = length-set w.nodes number node in let few = i.sound.limited in omega (arith, long, few);
         nodes = λ n old is. sound n old grows (set_cases w.nodes number undefined node n old open_yet is);
-        counted = let more = sum_set members_in w.nodes number undefined node open_yet refl in omega (arith, more, room);
+        counted = let more = sum_set members_in w.nodes number undefined node open_yet refl in
+            omega (arith, more, room);
         members = i.sound.members;
         sites = length-set w.nodes number node ∙ i.sound.sites ∙ ap (λ n. n + 14) (sym (held_long w.sites number held));
-        exceptions = let long = length-set w.nodes number node in let few = i.sound.exceptions in omega (arith, long, few);
+        exceptions = let long = length-set w.nodes number node in let few = i.sound.exceptions in
+            omega (arith, long, few);
       };
     }
   where
-    any_body : (kind : EntryKind) (b c : Type 0) (o : Option (Option Place)) → has_body kind ≡ true → HasPlace kind b o → HasPlace kind c o
+    any_body : (kind : EntryKind) (b c : Type 0) (o : Option (Option Place)) → has_body kind ≡ true → HasPlace kind b o
+        → HasPlace kind c o
     any_body Kinds.Struct b c o is h = h
     any_body Kinds.Union b c o is h = h
     any_body kind b c o is h = absurd cc
@@ -227,16 +288,21 @@ define_kept es g begun w e number node names held i body place ended done right 
     narrow f differs (inl same) = absurd (differs same)
     narrow f differs (inr b) = b
 
-    has_place : (f : ℕ) (y : Entry) → slice_get es f ≡ Some y → HasPlace y.kind (with_begun e begun f) (slice_get w.places f) → HasPlace y.kind (begun f) (slice_get w.places f)
+    has_place : (f : ℕ) (y : Entry) → slice_get es f ≡ Some y
+        → HasPlace y.kind (with_begun e begun f) (slice_get w.places f)
+        → HasPlace y.kind (begun f) (slice_get w.places f)
     has_place f y there h = by (same_or_not f e)
       where
         by : (f ≡ e) ⊎ (f ≡ e → ⊥) → HasPlace y.kind (begun f) (slice_get w.places f)
         by (inl same) =
             let here : HasBody es f = subst (HasBody es) (sym same) body in
-            any_body y.kind (with_begun e begun f) (begun f) (slice_get w.places f) (sym (ap (is_of has_body) there) ∙ here) h
-        by (inr differs) = body_begun y.kind (with_begun e begun f) (begun f) (slice_get w.places f) (narrow f differs) h
+            any_body y.kind (with_begun e begun f) (begun f) (slice_get w.places f)
+            (sym (ap (is_of has_body) there) ∙ here) h
+        by (inr differs) = body_begun y.kind (with_begun e begun f) (begun f) (slice_get w.places f) (narrow f differs)
+            h
 
-    ahead : (f n : ℕ) → HasBody es f → slice_get w.places f ≡ Some (Some (Typed n)) → (IsDone g (suc f) → ⊥) ⊎ begun f → slice_get (slice_set w.nodes number node) n ≡ Some undefined
+    ahead : (f n : ℕ) → HasBody es f → slice_get w.places f ≡ Some (Some (Typed n)) → (IsDone g (suc f) → ⊥) ⊎ begun f
+        → slice_get (slice_set w.nodes number node) n ≡ Some undefined
     ahead f n has there yet = by (same_or_not n number)
       where
         never : f ≡ e → (IsDone g (suc f) → ⊥) ⊎ begun f → ⊥
@@ -249,11 +315,13 @@ define_kept es g begun w e number node names held i body place ended done right 
 
         by : (n ≡ number) ⊎ (n ≡ number → ⊥) → slice_get (slice_set w.nodes number node) n ≡ Some undefined
         by (inl same) =
-            let at : slice_get w.places f ≡ Some (Some (Typed number)) = subst (λ k. slice_get w.places f ≡ Some (Some (Typed k))) same there in
+            let at : slice_get w.places f ≡ Some (Some (Typed number)) =
+            subst (λ k. slice_get w.places f ≡ Some (Some (Typed k))) same there in
             absurd (never (i.one f e number has body at place) yet)
         by (inr differs) = set_other w.nodes number n node differs ∙ i.ahead f n has there (wider yet)
 
-    left : (n : ℕ) → ((n ≡ number) × (node ≡ undefined)) ⊎ ((n ≡ number → ⊥) × (slice_get w.nodes n ≡ Some undefined)) → IsLeft es g begun w.places n
+    left : (n : ℕ) → ((n ≡ number) × (node ≡ undefined)) ⊎ ((n ≡ number → ⊥) × (slice_get w.nodes n ≡ Some undefined))
+        → IsLeft es g begun w.places n
     left n (inl (same, is)) = absurd (defined is)
     left n (inr (differs, is)) = by (i.left n is)
       where
@@ -262,12 +330,14 @@ define_kept es g begun w e number node names held i body place ended done right 
           where
             other : with_begun e begun l.entry → begun l.entry
             other (inl same) =
-                let at : slice_get w.places e ≡ Some (Some (Typed n)) = subst (λ k. slice_get w.places k ≡ Some (Some (Typed n))) same l.place in
+                let at : slice_get w.places e ≡ Some (Some (Typed n)) =
+                subst (λ k. slice_get w.places k ≡ Some (Some (Typed n))) same l.place in
                 let numbers : n ≡ number = cc in
                 absurd (differs numbers)
             other (inr b) = b
 
-    basic : (n : ℕ) (old : Node) → slice_get basic_nodes n ≡ Some old → (n ≡ number) ⊎ (n ≡ number → ⊥) → slice_get (slice_set w.nodes number node) n ≡ Some old
+    basic : (n : ℕ) (old : Node) → slice_get basic_nodes n ≡ Some old → (n ≡ number) ⊎ (n ≡ number → ⊥)
+        → slice_get (slice_set w.nodes number node) n ≡ Some old
     basic n old is (inl same) =
         let there = i.basic n old is in
         let at : slice_get w.nodes number ≡ Some old = subst (λ k. slice_get w.nodes k ≡ Some old) same there in
@@ -277,11 +347,16 @@ define_kept es g begun w e number node names held i body place ended done right 
     basic n old is (inr differs) = set_other w.nodes number n node differs ∙ i.basic n old is
 
     sound : (n : ℕ) (old : Node) → Grows w.nodes (slice_set w.nodes number node)
-        → ((n ≡ number) × (node ≡ old)) ⊎ ((n ≡ number → ⊥) × (slice_get w.nodes n ≡ Some old)) → IsRight (slice_set w.nodes number node) old
-    sound n old grows (inl (same, is)) = subst (IsRight (slice_set w.nodes number node)) is (inr (node_stays w.nodes (slice_set w.nodes number node) grows node right))
-    sound n old grows (inr (differs, is)) = right_stays w.nodes (slice_set w.nodes number node) grows old (i.sound.nodes n old is)
+        → ((n ≡ number) × (node ≡ old)) ⊎ ((n ≡ number → ⊥) × (slice_get w.nodes n ≡ Some old))
+        → IsRight (slice_set w.nodes number node) old
+    sound n old grows (inl (same, is)) =
+        subst (IsRight (slice_set w.nodes number node)) is
+        (inr (node_stays w.nodes (slice_set w.nodes number node) grows node right))
+    sound n old grows (inr (differs, is)) =
+        right_stays w.nodes (slice_set w.nodes number node) grows old (i.sound.nodes n old is)
 
-pub define_later : (w : Lowered) (number : ℕ) (node : Node) (names : List (List ℕ)) (held : List At) → slice_get w.nodes number ≡ Some undefined → IsNoFrame node
+pub define_later : (w : Lowered) (number : ℕ) (node : Node) (names : List (List ℕ)) (held : List At)
+    → slice_get w.nodes number ≡ Some undefined → IsNoFrame node
     → Later w (with_defined w number node names held)
 define_later w number node names held open_yet plain = record {
   nodes = set_grows w.nodes number node open_yet plain;
@@ -289,7 +364,8 @@ define_later w number node names held open_yet plain = record {
   exceptions = le_refl (length w.exceptions);
 }
 
-pub node_set_is : (w : Lowered) (number : ℕ) (node : Node) (names : List (List ℕ)) (held : List At) → slice_get w.nodes number ≡ Some undefined
+pub node_set_is : (w : Lowered) (number : ℕ) (node : Node) (names : List (List ℕ)) (held : List At)
+    → slice_get w.nodes number ≡ Some undefined
     → node_set w number node names held ≡ Ok (with_defined w number node names held)
 node_set_is w number node names held open_yet =
     ap (λ o. if is_undefined o then Ok (with_defined w number node names held) else Err OtherNames) open_yet
@@ -297,18 +373,23 @@ node_set_is w number node names held open_yet =
 -- ---- exceptions
 
 pub raise_kept : (es : List Entry) (g : List Introduction) (begun : ℕ → Type 0) (w : Lowered) (e frame : ℕ) (x : Entry)
-    → Keeps es g (with_begun e begun) w → Known es g e → slice_get w.places e ≡ Some None → slice_get es e ≡ Some x → x.kind ≡ Kinds.Exception
+    → Keeps es g (with_begun e begun) w → Known es g e → slice_get w.places e ≡ Some None → slice_get es e ≡ Some x
+    → x.kind ≡ Kinds.Exception
     → (begun e → ⊥) → length w.exceptions + 1 ≤ length w.nodes → IsIdFrame w.nodes frame
     → Keeps es g begun (with_placed w e (Raised frame (length w.exceptions)) (w.exceptions ++ (e, frame) ∷ []))
 raise_kept es g begun w e frame x i knows none at kind ended room id =
     let place = Raised frame (length w.exceptions) in
     let long = length-append w.exceptions ((e, frame) ∷ []) in
     place_kept es g g (with_begun e begun) begun w e x place (w.exceptions ++ (e, frame) ∷ []) i
-    (record { grows = λ f k. k; only = λ f k. inr k; here = knows; done = λ s d. d; undone = λ s d. d }) none at (ap has_body kind)
-    (has x.kind kind) ended (λ f b. inr b) narrow (omega (arith, long)) (omega (arith, long, room)) (id, omega (arith, long)) (λ k y is. each k y (push_cases w.exceptions (e, frame) k y is))
+    (record { grows = λ f k. k; only = λ f k. inr k; here = knows; done = λ s d. d; undone = λ s d. d }) none at
+    (ap has_body kind)
+    (has x.kind kind) ended (λ f b. inr b) narrow (omega (arith, long)) (omega (arith, long, room))
+    (id, omega (arith, long)) (λ k y is. each k y (push_cases w.exceptions (e, frame) k y is))
   where
-    has : (k : EntryKind) → k ≡ Kinds.Exception → HasPlace k (begun e) (Some (Some (Raised frame (length w.exceptions))))
-    has k is = subst (λ j. HasPlace j (begun e) (Some (Some (Raised frame (length w.exceptions))))) (sym is) (inr (frame, length w.exceptions, refl))
+    has : (k : EntryKind) → k ≡ Kinds.Exception
+        → HasPlace k (begun e) (Some (Some (Raised frame (length w.exceptions))))
+    has k is = subst (λ j. HasPlace j (begun e) (Some (Some (Raised frame (length w.exceptions))))) (sym is)
+        (inr (frame, length w.exceptions, refl))
 
     narrow : (f : ℕ) → (f ≡ e → ⊥) → with_begun e begun f → begun f
     narrow f differs (inl same) = absurd (differs same)
@@ -320,13 +401,18 @@ raise_kept es g begun w e frame x i knows none at kind ended room id =
         let old = i.exceptions k y is in
         record { place = kept y.0 y.1 k old.place; frame = old.frame }
       where
-        kept : (f n m : ℕ) → slice_get w.places f ≡ Some (Some (Raised n m)) → slice_get (slice_set w.places e (Some (Raised frame (length w.exceptions)))) f ≡ Some (Some (Raised n m))
-        kept f n m there = (place_later w e (Raised frame (length w.exceptions)) w.exceptions none (le_refl (length w.exceptions))).places f (Raised n m) there
+        kept : (f n m : ℕ) → slice_get w.places f ≡ Some (Some (Raised n m))
+            → slice_get (slice_set w.places e (Some (Raised frame (length w.exceptions)))) f ≡ Some (Some (Raised n m))
+        kept f n m there = (place_later w e (Raised frame (length w.exceptions)) w.exceptions none
+            (le_refl (length w.exceptions))).places f (Raised n m) there
     each k y (inr (at_end, is)) =
         let here = set_here w.places e None (Some (Raised frame (length w.exceptions))) none in
-        let one : IsException (slice_set w.places e (Some (Raised frame (length w.exceptions)))) w.nodes (length w.exceptions) (e, frame) = record { place = here; frame = id } in
-        subst (λ j. IsException (slice_set w.places e (Some (Raised frame (length w.exceptions)))) w.nodes j y) (sym at_end)
-        (subst (IsException (slice_set w.places e (Some (Raised frame (length w.exceptions)))) w.nodes (length w.exceptions)) is one)
+        let one : IsException (slice_set w.places e (Some (Raised frame (length w.exceptions)))) w.nodes
+        (length w.exceptions) (e, frame) = record { place = here; frame = id } in
+        subst (λ j. IsException (slice_set w.places e (Some (Raised frame (length w.exceptions)))) w.nodes j y)
+        (sym at_end)
+        (subst (IsException (slice_set w.places e (Some (Raised frame (length w.exceptions)))) w.nodes
+        (length w.exceptions)) is one)
 
 abbrev with_exception : ℕ → ℕ → Lowered → Result Lowered BuildFault
 with_exception e frame there = Ok (record there { exceptions = there.exceptions ++ (e, frame) ∷ [] })
@@ -334,5 +420,6 @@ with_exception e frame there = Ok (record there { exceptions = there.exceptions 
 pub raised_is : (w : Lowered) (e frame : ℕ) → slice_get w.places e ≡ Some None
     → raised_at w e frame ≡ Ok (with_placed w e (Raised frame (length w.exceptions)) (w.exceptions ++ (e, frame) ∷ []))
 raised_is w e frame none =
-    goes_on (placed w e (Raised frame (length w.exceptions))) (with_placed w e (Raised frame (length w.exceptions)) w.exceptions) (with_exception e frame)
+    goes_on (placed w e (Raised frame (length w.exceptions)))
+    (with_placed w e (Raised frame (length w.exceptions)) w.exceptions) (with_exception e frame)
     (placed_is w e (Raised frame (length w.exceptions)) none)

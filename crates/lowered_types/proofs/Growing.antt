@@ -27,7 +27,8 @@ IsRight graph node = (node ≡ undefined) ⊎ IsNode graph node
 
 -- ---- what stays
 
-pub stays : (graph later : List Node) → Grows graph later → (n : ℕ) (node : Node) → slice_get graph n ≡ Some node → (node ≡ undefined → ⊥)
+pub stays : (graph later : List Node) → Grows graph later → (n : ℕ) (node : Node) → slice_get graph n ≡ Some node
+    → (node ≡ undefined → ⊥)
     → slice_get later n ≡ Some node
 stays graph later grows n node is defined = by (grows n node is)
   where
@@ -51,7 +52,8 @@ grows_on graph mid later first second n node is = by (first n node is)
     by (inl same) = second n node same
     by (inr (open_yet, part)) = inr (open_yet, part_stays mid later second n part)
 
-pub parts_stay : (graph later : List Node) → Grows graph later → (ns : List ℕ) → All (IsPart graph) ns → All (IsPart later) ns
+pub parts_stay : (graph later : List Node) → Grows graph later → (ns : List ℕ) → All (IsPart graph) ns
+    → All (IsPart later) ns
 parts_stay graph later grows ns h = All-weaker (IsPart graph) (IsPart later) (part_stays graph later grows) ns h
 
 pub grows_long : (graph later : List Node) → Grows graph later → length graph ≤ length later
@@ -63,7 +65,8 @@ grows_long graph later grows = by (length graph) refl
 
     last : (k : ℕ) (node : Node) → Becomes later k node → k < length later
     last k node (inl same) = slice_get_within later k node same
-    last k node (inr (open_yet, part)) = let (other, is) = there (slice_get later k) part in slice_get_within later k other is
+    last k node (inr (open_yet, part)) = let (other, is) = there (slice_get later k) part in
+        slice_get_within later k other is
 
     by : (n : ℕ) → length graph ≡ n → length graph ≤ length later
     by zero is = omega (arith, is)
@@ -73,7 +76,8 @@ grows_long graph later grows = by (length graph) refl
         omega (arith, is, lt)
 
 -- a node of a kind of which one without definition isn't
-kind_stays : (P : Node → Type 0) → (P undefined → ⊥) → (graph later : List Node) → Grows graph later → (n : ℕ) → IsSomeAnd (slice_get graph n) P
+kind_stays : (P : Node → Type 0) → (P undefined → ⊥) → (graph later : List Node) → Grows graph later → (n : ℕ)
+    → IsSomeAnd (slice_get graph n) P
     → (node : Node) × (slice_get graph n ≡ Some node) × (slice_get later n ≡ Some node) × P node
 kind_stays P never graph later grows n h =
     let (node, is, has) = some_is (slice_get graph n) P h in
@@ -112,7 +116,8 @@ union_stays graph later grows switch arms default h =
       limited = h.limited;
       rising = h.rising;
       labels = subst (λ k. All (λ arm. IsNumber k arm.0) arms) same h.labels;
-      parts = All-weaker (λ arm. IsPart graph arm.1) (λ arm. IsPart later arm.1) (λ arm. part_stays graph later grows arm.1) arms h.parts;
+      parts = All-weaker (λ arm. IsPart graph arm.1) (λ arm. IsPart later arm.1)
+          (λ arm. part_stays graph later grows arm.1) arms h.parts;
       default_part = by default h.default_part;
       needed = subst (λ k. IfSome default (λ member. HasOther k arms)) same h.needed;
     }
@@ -134,7 +139,8 @@ node_stays graph later grows (Struct members) h = (h.0, members_stay graph later
 node_stays graph later grows (Union switch arms default) h = union_stays graph later grows switch arms default h
 node_stays graph later grows (Frame members) h = members_stay graph later grows members h
 
-pub right_stays : (graph later : List Node) → Grows graph later → (node : Node) → IsRight graph node → IsRight later node
+pub right_stays : (graph later : List Node) → Grows graph later → (node : Node) → IsRight graph node
+    → IsRight later node
 right_stays graph later grows node (inl open_yet) = inl open_yet
 right_stays graph later grows node (inr h) = inr (node_stays graph later grows node h)
 
@@ -143,7 +149,8 @@ right_stays graph later grows node (inr h) = inr (node_stays graph later grows n
 pub push_grows : (graph : List Node) (node : Node) → Grows graph (graph ++ node ∷ [])
 push_grows graph node n old is = inl (push_low graph node n old is)
 
-pub set_grows : (graph : List Node) (number : ℕ) (node : Node) → slice_get graph number ≡ Some undefined → IsNoFrame node
+pub set_grows : (graph : List Node) (number : ℕ) (node : Node) → slice_get graph number ≡ Some undefined
+    → IsNoFrame node
     → Grows graph (slice_set graph number node)
 set_grows graph number node open_yet plain n old is = by (same_or_not n number)
   where
@@ -152,5 +159,9 @@ set_grows graph number node open_yet plain n old is = by (same_or_not n number)
         let here = set_here graph number undefined node open_yet in
         let at : slice_get graph number ≡ Some old = subst (λ j. slice_get graph j ≡ Some old) same is in
         let is_open : old ≡ undefined = cc in
-        inr (is_open, subst (IsPart (slice_set graph number node)) (sym same) (is_some_and (slice_get (slice_set graph number node) number) IsNoFrame node here plain))
+        inr (
+          is_open,
+          subst (IsPart (slice_set graph number node)) (sym same)
+              (is_some_and (slice_get (slice_set graph number node) number) IsNoFrame node here plain),
+        )
     by (inr differ) = inl (set_other graph number n node differ ∙ is)

@@ -60,7 +60,8 @@ pub record IsSound (w : Lowered) : Type 0 where
   pub exceptions : length w.exceptions ≤ length w.nodes
 
 -- a node without definition is that of a structure or a union that has none yet
-pub record IsLeft (es : List Entry) (g : List Introduction) (begun : ℕ → Type 0) (places : List (Option Place)) (n : ℕ) : Type 0 where
+pub record IsLeft (es : List Entry) (g : List Introduction) (begun : ℕ → Type 0) (places : List (Option Place))
+    (n : ℕ) : Type 0 where
   pub entry : ℕ
   pub body : HasBody es entry
   pub place : slice_get places entry ≡ Some (Some (Typed n))
@@ -75,15 +76,18 @@ pub record IsException (places : List (Option Place)) (graph : List Node) (k : �
 pub record Keeps (es : List Entry) (g : List Introduction) (begun : ℕ → Type 0) (w : Lowered) : Type 0 where
   pub long : length w.places ≡ length es
   pub known : (e : ℕ) (p : Place) → slice_get w.places e ≡ Some (Some p) → Known es g e
-  pub has : (e : ℕ) (x : Entry) → Known es g e → slice_get es e ≡ Some x → HasPlace x.kind (begun e) (slice_get w.places e)
+  pub has : (e : ℕ) (x : Entry) → Known es g e → slice_get es e ≡ Some x
+      → HasPlace x.kind (begun e) (slice_get w.places e)
   pub begun_known : (e : ℕ) → begun e → Known es g e
   pub begun_done : (e : ℕ) → begun e → HasBody es e → IsDone g (suc e)
   pub done_known : (e : ℕ) → IsDone g (suc e) → Known es g e
   pub unplaced : (e : ℕ) (x : Entry) → begun e → slice_get es e ≡ Some x → IsUnplaced x.kind (slice_get w.places e)
   pub right : (e : ℕ) (p : Place) → slice_get w.places e ≡ Some (Some p) → IsPlaceAmong w.nodes (length w.exceptions) p
   pub exceptions : (k : ℕ) (x : ℕ × ℕ) → slice_get w.exceptions k ≡ Some x → IsException w.places w.nodes k x
-  pub one : (e f n : ℕ) → HasBody es e → HasBody es f → slice_get w.places e ≡ Some (Some (Typed n)) → slice_get w.places f ≡ Some (Some (Typed n)) → e ≡ f
-  pub ahead : (e n : ℕ) → HasBody es e → slice_get w.places e ≡ Some (Some (Typed n)) → (IsDone g (suc e) → ⊥) ⊎ begun e → slice_get w.nodes n ≡ Some undefined
+  pub one : (e f n : ℕ) → HasBody es e → HasBody es f → slice_get w.places e ≡ Some (Some (Typed n))
+      → slice_get w.places f ≡ Some (Some (Typed n)) → e ≡ f
+  pub ahead : (e n : ℕ) → HasBody es e → slice_get w.places e ≡ Some (Some (Typed n)) → (IsDone g (suc e) → ⊥) ⊎ begun e
+      → slice_get w.nodes n ≡ Some undefined
   pub left : (n : ℕ) → slice_get w.nodes n ≡ Some undefined → IsLeft es g begun w.places n
   pub basic : (n : ℕ) (node : Node) → slice_get basic_nodes n ≡ Some node → slice_get w.nodes n ≡ Some node
   pub sound : IsSound w
@@ -104,13 +108,16 @@ later_on w v u f g = record {
   exceptions = omega (arith, f.exceptions, g.exceptions);
 }
 
-pub place_stays : (graph later : List Node) (m n : ℕ) → Grows graph later → m ≤ n → (p : Place) → IsPlaceAmong graph m p → IsPlaceAmong later n p
+pub place_stays : (graph later : List Node) (m n : ℕ) → Grows graph later → m ≤ n → (p : Place) → IsPlaceAmong graph m p
+    → IsPlaceAmong later n p
 place_stays graph later m n grows le (Typed k) h = part_stays graph later grows k h
 place_stays graph later m n grows le (Raised frame place) h =
     let below = h.1 in
     (id_stays graph later grows frame h.0, omega (arith, below, le))
-place_stays graph later m n grows le (Called request) h = (frame_stays graph later grows request h.0, frame_stays graph later grows (request + 1) h.1)
-place_stays graph later m n grows le (Got request) h = (frame_stays graph later grows request h.0, frame_stays graph later grows (request + 1) h.1)
+place_stays graph later m n grows le (Called request) h =
+    (frame_stays graph later grows request h.0, frame_stays graph later grows (request + 1) h.1)
+place_stays graph later m n grows le (Got request) h =
+    (frame_stays graph later grows request h.0, frame_stays graph later grows (request + 1) h.1)
 place_stays graph later m n grows le (GotAndSet request) h = (
   frame_stays graph later grows request h.0,
   frame_stays graph later grows (request + 1) h.1,
@@ -123,16 +130,19 @@ place_stays graph later m n grows le (GotAndSet request) h = (
 pub body_of : (es : List Entry) (e : ℕ) (x : Entry) → slice_get es e ≡ Some x → has_body x.kind ≡ true → HasBody es e
 body_of es e x is has = ap (is_of has_body) is ∙ has
 
-pub no_body_of : (es : List Entry) (e : ℕ) (x : Entry) → slice_get es e ≡ Some x → has_body x.kind ≡ false → HasBody es e → ⊥
+pub no_body_of : (es : List Entry) (e : ℕ) (x : Entry) → slice_get es e ≡ Some x → has_body x.kind ≡ false
+    → HasBody es e → ⊥
 no_body_of es e x is none has = let told : is_of has_body (slice_get es e) ≡ false = ap (is_of has_body) is ∙ none in cc
 
 -- a structure or a union has a type
-pub body_placed : (kind : EntryKind) (begun : Type 0) (o : Option (Option Place)) → has_body kind ≡ true → HasPlace kind begun o → HasType o
+pub body_placed : (kind : EntryKind) (begun : Type 0) (o : Option (Option Place)) → has_body kind ≡ true
+    → HasPlace kind begun o → HasType o
 body_placed Kinds.Struct begun o is h = h
 body_placed Kinds.Union begun o is h = h
 body_placed kind begun o is h = absurd cc
 
-pub body_begun : (kind : EntryKind) (begun more : Type 0) (o : Option (Option Place)) → (begun → more) → HasPlace kind begun o → HasPlace kind more o
+pub body_begun : (kind : EntryKind) (begun more : Type 0) (o : Option (Option Place)) → (begun → more)
+    → HasPlace kind begun o → HasPlace kind more o
 body_begun Kinds.Module begun more o f h = h
 body_begun Kinds.Interface begun more o f h = h
 body_begun Kinds.Struct begun more o f h = h
@@ -150,9 +160,11 @@ body_begun Kinds.Attribute begun more o f h = h
 
 -- it is known already, or its kind needs no place
 abbrev pub NeedsNothing : List Entry → (ℕ → Type 0) → Lowered → Introduction → Type 0
-NeedsNothing es begun w x = (e : ℕ) (y : Entry) → StandsFor es e x → slice_get es e ≡ Some y → HasPlace y.kind (begun e) (slice_get w.places e)
+NeedsNothing es begun w x = (e : ℕ) (y : Entry) → StandsFor es e x → slice_get es e ≡ Some y
+    → HasPlace y.kind (begun e) (slice_get w.places e)
 
-pub more_known : (es : List Entry) (g : List Introduction) (begun : ℕ → Type 0) (w : Lowered) (x : Introduction) → Keeps es g begun w → NeedsNothing es begun w x
+pub more_known : (es : List Entry) (g : List Introduction) (begun : ℕ → Type 0) (w : Lowered) (x : Introduction)
+    → Keeps es g begun w → NeedsNothing es begun w x
     → ((e : ℕ) → IsBody (suc e) x → Known es g e × (HasBody es e → begun e)) → Keeps es (x ∷ g) begun w
 more_known es g begun w x i needs bodies = record {
   long = i.long;
@@ -171,7 +183,8 @@ more_known es g begun w x i needs bodies = record {
   sound = i.sound;
 }
   where
-    by : (e : ℕ) (y : Entry) → slice_get es e ≡ Some y → StandsFor es e x ⊎ Known es g e → HasPlace y.kind (begun e) (slice_get w.places e)
+    by : (e : ℕ) (y : Entry) → slice_get es e ≡ Some y → StandsFor es e x ⊎ Known es g e
+        → HasPlace y.kind (begun e) (slice_get w.places e)
     by e y at (inl stands) = needs e y stands at
     by e y at (inr knows) = i.has e y knows at
 
@@ -196,7 +209,8 @@ more_known es g begun w x i needs bodies = record {
 abbrev pub with_begun : ℕ → (ℕ → Type 0) → ℕ → Type 0
 with_begun e begun f = (f ≡ e) ⊎ begun f
 
-pub begins : (es : List Entry) (g : List Introduction) (begun : ℕ → Type 0) (w : Lowered) (e : ℕ) → Keeps es g begun w → Known es g e → HasBody es e
+pub begins : (es : List Entry) (g : List Introduction) (begun : ℕ → Type 0) (w : Lowered) (e : ℕ) → Keeps es g begun w
+    → Known es g e → HasBody es e
     → (IsDone g (suc e) → ⊥) → Keeps es (Body (suc e) ∷ g) (with_begun e begun) w
 begins es g begun w e i knows body new = record {
   long = i.long;
@@ -215,9 +229,11 @@ begins es g begun w e i knows body new = record {
   sound = i.sound;
 }
   where
-    by : (f : ℕ) (y : Entry) → slice_get es f ≡ Some y → StandsFor es f (Body (suc e)) ⊎ Known es g f → HasPlace y.kind (with_begun e begun f) (slice_get w.places f)
+    by : (f : ℕ) (y : Entry) → slice_get es f ≡ Some y → StandsFor es f (Body (suc e)) ⊎ Known es g f
+        → HasPlace y.kind (with_begun e begun f) (slice_get w.places f)
     by f y at (inl stands) = absurd stands
-    by f y at (inr k) = body_begun y.kind (begun f) (with_begun e begun f) (slice_get w.places f) (λ b. inr b) (i.has f y k at)
+    by f y at (inr k) = body_begun y.kind (begun f) (with_begun e begun f) (slice_get w.places f) (λ b. inr b)
+        (i.has f y k at)
 
     first : (f : ℕ) → with_begun e begun f → Known es g f
     first f (inl same) = subst (Known es g) (sym same) knows
@@ -235,18 +251,21 @@ begins es g begun w e i knows body new = record {
     no_exception Kinds.Exception o is = absurd cc
     no_exception kind o is = tt
 
-    bare : (f : ℕ) (y : Entry) → slice_get es f ≡ Some y → with_begun e begun f → IsUnplaced y.kind (slice_get w.places f)
+    bare : (f : ℕ) (y : Entry) → slice_get es f ≡ Some y → with_begun e begun f
+        → IsUnplaced y.kind (slice_get w.places f)
     bare f y at (inl same) =
         let here : HasBody es f = subst (HasBody es) (sym same) body in
         no_exception y.kind (slice_get w.places f) (sym (ap (is_of has_body) at) ∙ here)
     bare f y at (inr b) = i.unplaced f y b at
 
-    earlier : (f : ℕ) → (IsDone (Body (suc e) ∷ g) (suc f) → ⊥) ⊎ with_begun e begun f → (IsDone g (suc f) → ⊥) ⊎ begun f
+    earlier : (f : ℕ) → (IsDone (Body (suc e) ∷ g) (suc f) → ⊥) ⊎ with_begun e begun f → (IsDone g (suc f) → ⊥)
+        ⊎ begun f
     earlier f (inl never) = inl (λ done. never (inr done))
     earlier f (inr (inl same)) = inl (λ done. new (subst (λ k. IsDone g (suc k)) same done))
     earlier f (inr (inr b)) = inr b
 
-    again : (f : ℕ) → (IsDone g (suc f) → begun f) → IsBody (suc f) (Body (suc e)) ⊎ IsDone g (suc f) → with_begun e begun f
+    again : (f : ℕ) → (IsDone g (suc f) → begun f) → IsBody (suc f) (Body (suc e)) ⊎ IsDone g (suc f)
+        → with_begun e begun f
     again f old (inl same) = inl (omega (arith, same))
     again f old (inr done) = inr (old done)
 
@@ -254,8 +273,10 @@ begins es g begun w e i knows body new = record {
     still n l = record { entry = l.entry; body = l.body; place = l.place; again = again l.entry l.again }
 
 -- an exception, which has nothing yet
-pub begins_unplaced : (es : List Entry) (g : List Introduction) (begun : ℕ → Type 0) (w : Lowered) (e : ℕ) (x : Entry) (scope : ℕ) (l : Leaf) → Keeps es g begun w
-    → named es scope (word l) ≡ Some e → slice_get es e ≡ Some x → x.kind ≡ Kinds.Exception → slice_get w.places e ≡ Some None
+pub begins_unplaced : (es : List Entry) (g : List Introduction) (begun : ℕ → Type 0) (w : Lowered) (e : ℕ) (x : Entry)
+    (scope : ℕ) (l : Leaf) → Keeps es g begun w
+    → named es scope (word l) ≡ Some e → slice_get es e ≡ Some x → x.kind ≡ Kinds.Exception
+    → slice_get w.places e ≡ Some None
     → Keeps es (Stands scope l Kinds.Exception ∷ g) (with_begun e begun) w
 begins_unplaced es g begun w e x scope l i is at kind none = record {
   long = i.long;
@@ -277,26 +298,30 @@ begins_unplaced es g begun w e x scope l i is at kind none = record {
     exception : (k : EntryKind) (o : Option (Option Place)) (b : Type 0) → k ≡ Kinds.Exception → b → HasPlace k b o
     exception k o b same has = subst (λ j. HasPlace j b o) (sym same) (inl has)
 
-    by : (f : ℕ) (y : Entry) → slice_get es f ≡ Some y → (named es scope (word l) ≡ Some f) ⊎ Known es g f → HasPlace y.kind (with_begun e begun f) (slice_get w.places f)
+    by : (f : ℕ) (y : Entry) → slice_get es f ≡ Some y → (named es scope (word l) ≡ Some f) ⊎ Known es g f
+        → HasPlace y.kind (with_begun e begun f) (slice_get w.places f)
     by f y here (inl stands) =
         let same : f ≡ e = cc in
         let there : slice_get es e ≡ Some y = subst (λ k. slice_get es k ≡ Some y) same here in
         let one : x ≡ y = cc in
         exception y.kind (slice_get w.places f) (with_begun e begun f) (sym (ap (λ z. z.kind) one) ∙ kind) (inl same)
-    by f y here (inr k) = body_begun y.kind (begun f) (with_begun e begun f) (slice_get w.places f) (λ b. inr b) (i.has f y k here)
+    by f y here (inr k) = body_begun y.kind (begun f) (with_begun e begun f) (slice_get w.places f) (λ b. inr b)
+        (i.has f y k here)
 
     first : (f : ℕ) → with_begun e begun f → (named es scope (word l) ≡ Some f) ⊎ Known es g f
     first f (inl same) = inl (is ∙ ap Some (sym same))
     first f (inr b) = inr (i.begun_known f b)
 
-    now_done : (f : ℕ) → IsBody (suc f) (Stands scope l Kinds.Exception) ⊎ IsDone g (suc f) → (named es scope (word l) ≡ Some f) ⊎ Known es g f
+    now_done : (f : ℕ) → IsBody (suc f) (Stands scope l Kinds.Exception) ⊎ IsDone g (suc f)
+        → (named es scope (word l) ≡ Some f) ⊎ Known es g f
     now_done f (inl never) = absurd never
     now_done f (inr done) = inr (i.done_known f done)
 
     other : (f : ℕ) → HasBody es f → f ≡ e → ⊥
     other f has same = no_body_of es e x at (ap has_body kind) (subst (HasBody es) same has)
 
-    defined : (f : ℕ) → HasBody es f → with_begun e begun f → IsBody (suc f) (Stands scope l Kinds.Exception) ⊎ IsDone g (suc f)
+    defined : (f : ℕ) → HasBody es f → with_begun e begun f → IsBody (suc f) (Stands scope l Kinds.Exception)
+        ⊎ IsDone g (suc f)
     defined f has (inl same) = absurd (other f has same)
     defined f has (inr b) = inr (i.begun_done f b has)
 
@@ -304,18 +329,22 @@ begins_unplaced es g begun w e x scope l i is at kind none = record {
     no_place Kinds.Exception o none = none
     no_place k o none = tt
 
-    bare : (f : ℕ) (y : Entry) → slice_get es f ≡ Some y → with_begun e begun f → IsUnplaced y.kind (slice_get w.places f)
+    bare : (f : ℕ) (y : Entry) → slice_get es f ≡ Some y → with_begun e begun f
+        → IsUnplaced y.kind (slice_get w.places f)
     bare f y here (inl same) = no_place y.kind (slice_get w.places f) (ap (slice_get w.places) same ∙ none)
     bare f y here (inr b) = i.unplaced f y b here
 
-    earlier : (f : ℕ) → HasBody es f → (IsDone (Stands scope l Kinds.Exception ∷ g) (suc f) → ⊥) ⊎ with_begun e begun f → (IsDone g (suc f) → ⊥) ⊎ begun f
+    earlier : (f : ℕ) → HasBody es f → (IsDone (Stands scope l Kinds.Exception ∷ g) (suc f) → ⊥) ⊎ with_begun e begun f
+        → (IsDone g (suc f) → ⊥) ⊎ begun f
     earlier f has (inl never) = inl (λ done. never (inr done))
     earlier f has (inr (inl same)) = absurd (other f has same)
     earlier f has (inr (inr b)) = inr b
 
-    again : (f : ℕ) → (IsDone g (suc f) → begun f) → IsBody (suc f) (Stands scope l Kinds.Exception) ⊎ IsDone g (suc f) → with_begun e begun f
+    again : (f : ℕ) → (IsDone g (suc f) → begun f) → IsBody (suc f) (Stands scope l Kinds.Exception) ⊎ IsDone g (suc f)
+        → with_begun e begun f
     again f old (inl never) = absurd never
     again f old (inr done) = inr (old done)
 
-    still : (n : ℕ) → IsLeft es g begun w.places n → IsLeft es (Stands scope l Kinds.Exception ∷ g) (with_begun e begun) w.places n
+    still : (n : ℕ) → IsLeft es g begun w.places n
+        → IsLeft es (Stands scope l Kinds.Exception ∷ g) (with_begun e begun) w.places n
     still n l = record { entry = l.entry; body = l.body; place = l.place; again = again l.entry l.again }

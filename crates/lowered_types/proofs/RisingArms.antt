@@ -29,18 +29,21 @@ abbrev pub Rise : List Arm → Type 0
 Rise [] = Unit {0}
 Rise (arm ∷ arms) = AllByRecursion (λ other. int_lt arm.label other.label ≡ true) arms × Rise arms
 
-all_with_arm : (P : Arm → Type 0) (arms : List Arm) (new : Arm) → P new → AllByRecursion P arms → AllByRecursion P (with_arm arms new)
+all_with_arm : (P : Arm → Type 0) (arms : List Arm) (new : Arm) → P new → AllByRecursion P arms
+    → AllByRecursion P (with_arm arms new)
 all_with_arm P [] new h hs = (h, tt)
 all_with_arm P (arm ∷ arms) new h (first, rest) = by (int_lt new.label arm.label) (all_with_arm P arms new h rest)
   where
-    by : (b : Bool) → AllByRecursion P (with_arm arms new) → AllByRecursion P (if b then new ∷ arm ∷ arms else arm ∷ with_arm arms new)
+    by : (b : Bool) → AllByRecursion P (with_arm arms new)
+        → AllByRecursion P (if b then new ∷ arm ∷ arms else arm ∷ with_arm arms new)
     by true others = (h, (first, rest))
     by false others = (first, others)
 
 less_on : (a b c : ℤ) → int_lt a b ≡ true → int_lt b c ≡ true → int_lt a c ≡ true
 less_on a b c first second = grind (arith, ints)
 
-all_less : (a b : ℤ) (arms : List Arm) → int_lt a b ≡ true → AllByRecursion (λ other. int_lt b other.label ≡ true) arms → AllByRecursion (λ other. int_lt a other.label ≡ true) arms
+all_less : (a b : ℤ) (arms : List Arm) → int_lt a b ≡ true → AllByRecursion (λ other. int_lt b other.label ≡ true) arms
+    → AllByRecursion (λ other. int_lt a other.label ≡ true) arms
 all_less a b [] less h = tt
 all_less a b (arm ∷ arms) less (h, hs) = (less_on a b arm.label less h, all_less a b arms less hs)
 
@@ -58,10 +61,14 @@ rise_with (arm ∷ arms) new (first, rest) free =
     let apart = or_false (int_eq arm.label new.label) (is_label arms new.label) free in
     by (int_lt new.label arm.label) refl apart.0 (rise_with arms new rest apart.1)
   where
-    by : (b : Bool) → int_lt new.label arm.label ≡ b → int_eq arm.label new.label ≡ false → Rise (with_arm arms new) → Rise (if b then new ∷ arm ∷ arms else arm ∷ with_arm arms new)
+    by : (b : Bool) → int_lt new.label arm.label ≡ b → int_eq arm.label new.label ≡ false → Rise (with_arm arms new)
+        → Rise (if b then new ∷ arm ∷ arms else arm ∷ with_arm arms new)
     by true less differs others = ((less, all_less new.label arm.label arms less first), (first, rest))
-    by false not_less differs others =
-        (all_with_arm (λ other. int_lt arm.label other.label ≡ true) arms new (greater new.label arm.label not_less differs) first, others)
+    by false not_less differs others = (
+      all_with_arm (λ other. int_lt arm.label other.label ≡ true) arms new
+          (greater new.label arm.label not_less differs) first,
+      others,
+    )
 
 -- ---- arms and the labels of a case
 
@@ -84,11 +91,13 @@ pub record AreLabels (s : Switch) (a : Arms) (ls : CaseLabels) : Type 0 where
 abbrev IsLabelOf : Switch → Arms → LabelValue → Type 0
 IsLabelOf s a l = (is_value s.values l.value ≡ true) × (is_label a.arms l.value ≡ false)
 
-all_end : {T : Type 0} (P : T → Type 0) (xs : List T) (x : T) → AllByRecursion P xs → P x → AllByRecursion P (xs ++ x ∷ [])
+all_end : {T : Type 0} (P : T → Type 0) (xs : List T) (x : T) → AllByRecursion P xs → P x
+    → AllByRecursion P (xs ++ x ∷ [])
 all_end P [] x h has = (has, tt)
 all_end P (y ∷ ys) x (h, hs) has = (h, all_end P ys x hs has)
 
-apart_end : (ls : List LabelValue) (l : LabelValue) → Apart ls → list_any (λ m. int_eq m.value l.value) ls ≡ false → Apart (ls ++ l ∷ [])
+apart_end : (ls : List LabelValue) (l : LabelValue) → Apart ls → list_any (λ m. int_eq m.value l.value) ls ≡ false
+    → Apart (ls ++ l ∷ [])
 apart_end [] l h free = (tt, tt)
 apart_end (m ∷ ms) l (first, rest) free =
     let parts = or_false (int_eq m.value l.value) (list_any (λ k. int_eq k.value l.value) ms) free in
@@ -99,7 +108,8 @@ arm_nowhere : (arms : List Arm) (n : ℤ) → arm_label_at arms n ≡ None → i
 arm_nowhere [] n is = refl
 arm_nowhere (arm ∷ arms) n is = by (int_eq arm.label n) is (arm_nowhere arms n)
   where
-    by : (b : Bool) → (if b then Some arm.label_at else arm_label_at arms n) ≡ None → (arm_label_at arms n ≡ None → is_label arms n ≡ false) → (b || is_label arms n) ≡ false
+    by : (b : Bool) → (if b then Some arm.label_at else arm_label_at arms n) ≡ None
+        → (arm_label_at arms n ≡ None → is_label arms n ≡ false) → (b || is_label arms n) ≡ false
     by true is others = absurd cc
     by false is others = others is
 
@@ -107,7 +117,8 @@ value_nowhere : (ls : List LabelValue) (n : ℤ) → value_at ls n ≡ None → 
 value_nowhere [] n is = refl
 value_nowhere (l ∷ ls) n is = by (int_eq l.value n) is (value_nowhere ls n)
   where
-    by : (b : Bool) → (if b then Some l.at else value_at ls n) ≡ None → (value_at ls n ≡ None → list_any (λ l. int_eq l.value n) ls ≡ false)
+    by : (b : Bool) → (if b then Some l.at else value_at ls n) ≡ None
+        → (value_at ls n ≡ None → list_any (λ l. int_eq l.value n) ls ≡ false)
         → (b || list_any (λ l. int_eq l.value n) ls) ≡ false
     by true is others = absurd cc
     by false is others = others is
@@ -116,23 +127,28 @@ neither : (o p : Option At) → option_or o p ≡ None → (o ≡ None) × (p �
 neither None p is = (refl, is)
 neither (Some x) p is = absurd cc
 
-not_taken : (a : Arms) (ls : CaseLabels) (n : ℤ) → taken_at a ls n ≡ None → (is_label a.arms n ≡ false) × (list_any (λ l. int_eq l.value n) ls.values ≡ false)
+not_taken : (a : Arms) (ls : CaseLabels) (n : ℤ) → taken_at a ls n ≡ None
+    → (is_label a.arms n ≡ false) × (list_any (λ l. int_eq l.value n) ls.values ≡ false)
 not_taken a ls n is =
     let (arm, value) = neither (arm_label_at a.arms n) (value_at ls.values n) is in
     (arm_nowhere a.arms n arm, value_nowhere ls.values n value)
 
 -- a value that no arm and no label before has
-pub value_fine : (s : Switch) (a : Arms) (ls : CaseLabels) (at : At) (n : ℤ) → AreLabels s a ls → is_value s.values n ≡ true → Fine (AreLabels s a) (value_added a ls at n)
+pub value_fine : (s : Switch) (a : Arms) (ls : CaseLabels) (at : At) (n : ℤ) → AreLabels s a ls
+    → is_value s.values n ≡ true → Fine (AreLabels s a) (value_added a ls at n)
 value_fine s a ls at n h value = by (taken_at a ls n) refl
   where
     by : (o : Option At) → taken_at a ls n ≡ o → Fine (AreLabels s a) (once_test at o >> λ u.
-        at_most max_members MembersLimit at (length a.arms + length ls.values + 1) >> λ count. Ok (record ls { values = ls.values ++ labelled n at ∷ [] }))
+        at_most max_members MembersLimit at (length a.arms + length ls.values + 1) >> λ count. Ok
+        (record ls { values = ls.values ++ labelled n at ∷ [] }))
     by (Some other) taken = tt
     by None free =
         let parts = not_taken a ls n free in
         let more = length-append ls.values (labelled n at ∷ []) in
-        and_then (λ k. (k ≡ length a.arms + length ls.values + 1) × (length a.arms + length ls.values + 1 ≤ max_members)) (AreLabels s a)
-        (at_most max_members MembersLimit at (length a.arms + length ls.values + 1)) (λ count. Ok (record ls { values = ls.values ++ labelled n at ∷ [] }))
+        and_then (λ k. (k ≡ length a.arms + length ls.values + 1)
+        × (length a.arms + length ls.values + 1 ≤ max_members)) (AreLabels s a)
+        (at_most max_members MembersLimit at (length a.arms + length ls.values + 1))
+        (λ count. Ok (record ls { values = ls.values ++ labelled n at ∷ [] }))
         (at_most_fine max_members MembersLimit at (length a.arms + length ls.values + 1)) (λ k fits.
         let le = fits.1 in
         record {
@@ -143,13 +159,15 @@ value_fine s a ls at n h value = by (taken_at a ls n) refl
 
 -- ---- a case has its arms
 
-arm_label : (arms : List Arm) (new : Arm) (n : ℤ) → is_label arms n ≡ false → int_eq new.label n ≡ false → is_label (with_arm arms new) n ≡ false
+arm_label : (arms : List Arm) (new : Arm) (n : ℤ) → is_label arms n ≡ false → int_eq new.label n ≡ false
+    → is_label (with_arm arms new) n ≡ false
 arm_label [] new n free differs = ap (λ b. b || false) differs
 arm_label (arm ∷ arms) new n free differs =
     let parts = or_false (int_eq arm.label n) (is_label arms n) free in
     by (int_lt new.label arm.label) parts.0 (arm_label arms new n parts.1 differs)
   where
-    by : (b : Bool) → int_eq arm.label n ≡ false → is_label (with_arm arms new) n ≡ false → is_label (if b then new ∷ arm ∷ arms else arm ∷ with_arm arms new) n ≡ false
+    by : (b : Bool) → int_eq arm.label n ≡ false → is_label (with_arm arms new) n ≡ false
+        → is_label (if b then new ∷ arm ∷ arms else arm ∷ with_arm arms new) n ≡ false
     by true first others = ap (λ b. b || is_label (arm ∷ arms) n) differs ∙ free
     by false first others = ap (λ b. b || is_label (with_arm arms new) n) first ∙ others
 
@@ -157,7 +175,8 @@ length_with : (arms : List Arm) (new : Arm) → length (with_arm arms new) ≡ l
 length_with [] new = omega arith
 length_with (arm ∷ arms) new = by (int_lt new.label arm.label) (length_with arms new)
   where
-    by : (b : Bool) → length (with_arm arms new) ≡ length arms + 1 → length (if b then new ∷ arm ∷ arms else arm ∷ with_arm arms new) ≡ length (arm ∷ arms) + 1
+    by : (b : Bool) → length (with_arm arms new) ≡ length arms + 1
+        → length (if b then new ∷ arm ∷ arms else arm ∷ with_arm arms new) ≡ length (arm ∷ arms) + 1
     by true others = omega arith
     by false others = omega (arith, others)
 
@@ -165,46 +184,64 @@ length_with (arm ∷ arms) new = by (int_lt new.label arm.label) (length_with ar
 abbrev IsFree : Switch → List Arm → LabelValue → Type 0
 IsFree s arms l = (is_value s.values l.value ≡ true) × (is_label arms l.value ≡ false)
 
-still_free : (s : Switch) (arms : List Arm) (new : Arm) (ls : List LabelValue) → AllByRecursion (IsFree s arms) ls → AllByRecursion (λ m. int_eq new.label m.value ≡ false) ls
+still_free : (s : Switch) (arms : List Arm) (new : Arm) (ls : List LabelValue) → AllByRecursion (IsFree s arms) ls
+    → AllByRecursion (λ m. int_eq new.label m.value ≡ false) ls
     → AllByRecursion (IsFree s (with_arm arms new)) ls
 still_free s arms new [] h apart = tt
-still_free s arms new (l ∷ ls) (h, hs) (differs, rest) = ((h.0, arm_label arms new l.value h.1 differs), still_free s arms new ls hs rest)
+still_free s arms new (l ∷ ls) (h, hs) (differs, rest) =
+    ((h.0, arm_label arms new l.value h.1 differs), still_free s arms new ls hs rest)
 
 pub record AreRisen (graph : List Node) (s : Switch) (count : ℕ) (arms : List Arm) : Type 0 where
   pub long : length arms ≡ count
   pub rise : Rise arms
   pub each : AllByRecursion (λ arm. IsPart graph arm.number × (is_value s.values arm.label ≡ true)) arms
 
-risen_with : (graph : List Node) (s : Switch) (count : ℕ) (arms : List Arm) (number : ℕ) (at : At) (ls : List LabelValue) → AreRisen graph s count arms → IsPart graph number
+risen_with : (graph : List Node) (s : Switch) (count : ℕ) (arms : List Arm) (number : ℕ) (at : At)
+    (ls : List LabelValue) → AreRisen graph s count arms → IsPart graph number
     → AllByRecursion (IsFree s arms) ls → Apart ls → AreRisen graph s (count + length ls) (with_arms arms number at ls)
-risen_with graph s count arms number at [] h part free apart = record { long = let long = h.long in omega (arith, long); rise = h.rise; each = h.each }
+risen_with graph s count arms number at [] h part free apart =
+    record { long = let long = h.long in omega (arith, long); rise = h.rise; each = h.each }
 risen_with graph s count arms number at (l ∷ ls) h part (free, rest) (differ, apart) =
     let new : Arm = record { label = l.value; label_at = l.at; number = number; at = at } in
     let one : AreRisen graph s (count + 1) (with_arm arms new) = record {
       long = let long = h.long in omega (arith, long, length_with arms new);
       rise = rise_with arms new h.rise free.1;
-      each = all_with_arm (λ arm. IsPart graph arm.number × (is_value s.values arm.label ≡ true)) arms new (part, free.0) h.each;
+      each = all_with_arm (λ arm. IsPart graph arm.number × (is_value s.values arm.label ≡ true)) arms new
+          (part, free.0) h.each;
     } in
-    let all = risen_with graph s (count + 1) (with_arm arms new) number at ls one part (still_free s arms new ls rest differ) apart in
+    let all = risen_with graph s (count + 1) (with_arm arms new) number at ls one part
+    (still_free s arms new ls rest differ) apart in
     record { long = let long = all.long in omega (arith, long); rise = all.rise; each = all.each }
 
-pub case_arms : (graph : List Node) (s : Switch) (a : Arms) (name : List ℕ) (number : ℕ) (at : At) (ls : CaseLabels) → AreArms graph s a → AreLabels s a ls → IsPart graph number
+pub case_arms : (graph : List Node) (s : Switch) (a : Arms) (name : List ℕ) (number : ℕ) (at : At) (ls : CaseLabels)
+    → AreArms graph s a → AreLabels s a ls → IsPart graph number
     → AreArms graph s (with_case a name number at ls)
 case_arms graph s a name number at ls h labels part =
-    let all = risen_with graph s (length a.arms) a.arms number at ls.values (record { long = refl; rise = h.rise; each = h.each }) part labels.values labels.apart in
+    let all = risen_with graph s (length a.arms) a.arms number at ls.values
+    (record { long = refl; rise = h.rise; each = h.each }) part labels.values labels.apart in
     let long = all.long in
     let fits = labels.limited in
-    record { limited = omega (arith, long, fits); rise = all.rise; each = all.each; default = by a.default ls.default h.default }
+    record {
+      limited = omega (arith, long, fits);
+      rise = all.rise;
+      each = all.each;
+      default =
+          by a.default ls.default h.default;
+    }
   where
-    by : (old : Option DefaultArm) (keyword : Option At) → IfSome old (λ d. IsPart graph d.number) → IfSome (with_default old number at keyword) (λ d. IsPart graph d.number)
+    by : (old : Option DefaultArm) (keyword : Option At) → IfSome old (λ d. IsPart graph d.number)
+        → IfSome (with_default old number at keyword) (λ d. IsPart graph d.number)
     by old None before = before
     by old (Some keyword) before = part
 
 -- where more is lowered
-pub arms_stay : (graph later : List Node) → Grows graph later → (s : Switch) (a : Arms) → AreArms graph s a → AreArms later s a
-arms_stay graph later grows s a h = record { limited = h.limited; rise = h.rise; each = all a.arms h.each; default = by a.default h.default }
+pub arms_stay : (graph later : List Node) → Grows graph later → (s : Switch) (a : Arms) → AreArms graph s a
+    → AreArms later s a
+arms_stay graph later grows s a h =
+    record { limited = h.limited; rise = h.rise; each = all a.arms h.each; default = by a.default h.default }
   where
-    all : (arms : List Arm) → AllByRecursion (λ arm. IsPart graph arm.number × (is_value s.values arm.label ≡ true)) arms
+    all : (arms : List Arm) → AllByRecursion (λ arm. IsPart graph arm.number × (is_value s.values arm.label ≡ true))
+        arms
         → AllByRecursion (λ arm. IsPart later arm.number × (is_value s.values arm.label ≡ true)) arms
     all [] hs = tt
     all (arm ∷ arms) (first, rest) = ((part_stays graph later grows arm.number first.0, first.1), all arms rest)

@@ -50,7 +50,8 @@ onto (x ∷ xs) g = onto xs (x ∷ g)
 
 -- what is introduced is new, or may appear again
 abbrev pub IsNew : List Entry → List Introduction → Introduction → Type 0
-IsNew es g (Stands scope l kind) = (e : ℕ) → named es scope (word l) ≡ Some e → Known es g e → may_reappear kind kind ≡ true
+IsNew es g (Stands scope l kind) = (e : ℕ) → named es scope (word l) ≡ Some e → Known es g e
+    → may_reappear kind kind ≡ true
 IsNew es g (Has scope l) = Unit {0}
 IsNew es g (Body s) = IsDone g s → ⊥
 
@@ -76,7 +77,8 @@ behind es g scope (s ∷ steps) = behind es (onto (introduced_by scope s) g) (sc
 
 -- ---- parts one behind another
 
-pub hold : (es : List Entry) (g : List Introduction) (scope : ℕ) (xs : List Step) → AllSettled es g scope xs → AllHold es scope xs
+pub hold : (es : List Entry) (g : List Introduction) (scope : ℕ) (xs : List Step) → AllSettled es g scope xs
+    → AllHold es scope xs
 hold es g scope [] h = tt
 hold es g scope (s ∷ xs) (h, hs) = (h.holds, hold es (onto (introduced_by scope s) g) (scope_behind es scope s) xs hs)
 
@@ -91,35 +93,45 @@ pub behind_split : (es : List Entry) (g : List Introduction) (scope : ℕ) (xs y
 behind_split es g scope [] ys = refl
 behind_split es g scope (s ∷ xs) ys = behind_split es (onto (introduced_by scope s) g) (scope_behind es scope s) xs ys
 
-pub both : (es : List Entry) (g : List Introduction) (scope : ℕ) (xs ys : List Step) → Closed xs → AllSettled es g scope (xs ++ ys)
+pub both : (es : List Entry) (g : List Introduction) (scope : ℕ) (xs ys : List Step) → Closed xs
+    → AllSettled es g scope (xs ++ ys)
     → AllSettled es g scope xs × AllSettled es (behind es g scope xs) scope ys
 both es g scope xs ys c h =
-    let parts = split es g scope xs ys h in
-    (parts.0, subst (λ k. AllSettled es (behind es g scope xs) k ys) (c.go es scope (hold es g scope xs parts.0)) parts.1)
+    let parts = split es g scope xs ys h in (
+      parts.0,
+      subst (λ k. AllSettled es (behind es g scope xs) k ys) (c.go es scope (hold es g scope xs parts.0))
+          parts.1,
+    )
 
-pub both_behind : (es : List Entry) (g : List Introduction) (scope : ℕ) (xs ys : List Step) → Closed xs → AllSettled es g scope xs
+pub both_behind : (es : List Entry) (g : List Introduction) (scope : ℕ) (xs ys : List Step) → Closed xs
+    → AllSettled es g scope xs
     → behind es g scope (xs ++ ys) ≡ behind es (behind es g scope xs) scope ys
 both_behind es g scope xs ys c h =
-    behind_split es g scope xs ys ∙ ap (λ k. behind es (behind es g scope xs) k ys) (c.go es scope (hold es g scope xs h))
+    behind_split es g scope xs ys
+    ∙ ap (λ k. behind es (behind es g scope xs) k ys) (c.go es scope (hold es g scope xs h))
 
 still_known : (es : List Entry) (g xs : List Introduction) (e : ℕ) → Known es g e → Known es (onto xs g) e
 still_known es g [] e h = h
 still_known es g (x ∷ xs) e h = still_known es (x ∷ g) xs e (inr h)
 
 -- what is known stays so
-pub known_stays : (es : List Entry) (g : List Introduction) (scope : ℕ) (xs : List Step) (e : ℕ) → Known es g e → Known es (behind es g scope xs) e
+pub known_stays : (es : List Entry) (g : List Introduction) (scope : ℕ) (xs : List Step) (e : ℕ) → Known es g e
+    → Known es (behind es g scope xs) e
 known_stays es g scope [] e h = h
 known_stays es g scope (s ∷ xs) e h =
-    known_stays es (onto (introduced_by scope s) g) (scope_behind es scope s) xs e (still_known es g (introduced_by scope s) e h)
+    known_stays es (onto (introduced_by scope s) g) (scope_behind es scope s) xs e
+    (still_known es g (introduced_by scope s) e h)
 
 still_done : (g xs : List Introduction) (s : ℕ) → IsDone g s → IsDone (onto xs g) s
 still_done g [] s h = h
 still_done g (x ∷ xs) s h = still_done (x ∷ g) xs s (inr h)
 
-pub done_stays : (es : List Entry) (g : List Introduction) (scope : ℕ) (xs : List Step) (k : ℕ) → IsDone g k → IsDone (behind es g scope xs) k
+pub done_stays : (es : List Entry) (g : List Introduction) (scope : ℕ) (xs : List Step) (k : ℕ) → IsDone g k
+    → IsDone (behind es g scope xs) k
 done_stays es g scope [] k h = h
 done_stays es g scope (s ∷ xs) k h =
-    done_stays es (onto (introduced_by scope s) g) (scope_behind es scope s) xs k (still_done g (introduced_by scope s) k h)
+    done_stays es (onto (introduced_by scope s) g) (scope_behind es scope s) xs k
+    (still_done g (introduced_by scope s) k h)
 
 -- ---- what stands inside a scope
 
@@ -129,7 +141,8 @@ pub record Within (es : List Entry) (g : List Introduction) (scope : ℕ) (l : L
   pub inner : AllSettled es g (entry + 1) xs
   pub whole : behind es g scope (Enters l ∷ (xs ++ Leaves ∷ [])) ≡ behind es g (entry + 1) xs
 
-pub within : (es : List Entry) (g : List Introduction) (scope : ℕ) (l : Leaf) (xs : List Step) → Closed xs → AllSettled es g scope (Enters l ∷ (xs ++ Leaves ∷ []))
+pub within : (es : List Entry) (g : List Introduction) (scope : ℕ) (l : Leaf) (xs : List Step) → Closed xs
+    → AllSettled es g scope (Enters l ∷ (xs ++ Leaves ∷ []))
     → Within es g scope l xs
 within es g scope l xs c (enters, body) =
     let (e, is) = enters.holds.there in
@@ -144,14 +157,17 @@ within es g scope l xs c (enters, body) =
     }
 
 -- the entry of what is defined, and what stands inside
-pub record Inside (es : List Entry) (g : List Introduction) (scope : ℕ) (l : Leaf) (kind : EntryKind) (xs : List Step) : Type 0 where
+pub record Inside (es : List Entry) (g : List Introduction) (scope : ℕ) (l : Leaf) (kind : EntryKind) (xs : List Step) :
+    Type 0 where
   pub entry : ℕ
   pub is : named es scope (word l) ≡ Some entry
   pub new : IsDone (Stands scope l kind ∷ g) (suc entry) → ⊥
   pub inner : AllSettled es (Body (suc entry) ∷ Stands scope l kind ∷ g) (entry + 1) xs
-  pub whole : behind es g scope (Declares kind l ∷ Enters l ∷ Defines l ∷ (xs ++ Leaves ∷ [])) ≡ behind es (Body (suc entry) ∷ Stands scope l kind ∷ g) (entry + 1) xs
+  pub whole : behind es g scope (Declares kind l ∷ Enters l ∷ Defines l ∷ (xs ++ Leaves ∷ []))
+      ≡ behind es (Body (suc entry) ∷ Stands scope l kind ∷ g) (entry + 1) xs
 
-pub inside : (es : List Entry) (g : List Introduction) (scope : ℕ) (l : Leaf) (kind : EntryKind) (xs : List Step) → Closed xs
+pub inside : (es : List Entry) (g : List Introduction) (scope : ℕ) (l : Leaf) (kind : EntryKind) (xs : List Step)
+    → Closed xs
     → AllSettled es g scope (Declares kind l ∷ Enters l ∷ Defines l ∷ (xs ++ Leaves ∷ [])) → Inside es g scope l kind xs
 inside es g scope l kind xs c (declares, rest) =
     let there = Stands scope l kind ∷ g in
@@ -173,18 +189,34 @@ abbrev NoClash : List Introduction → Introduction → Type 0
 NoClash g y = AllByRecursion (λ x. clashes x y ≡ false) g
 
 abbrev blank : Entry
-blank = record { scope = 0; name = []; token = 0; kind = Kinds.Module; bases = []; worth = None; stands_for = None; line = 0; identifier = 0; prefix = [] }
+blank = record {
+  scope = 0;
+  name = [];
+  token = 0;
+  kind = Kinds.Module;
+  bases = [];
+  worth = None;
+  stands_for =
+      None;
+  line = 0;
+  identifier = 0;
+  prefix = [];
+}
 
 -- two names of one entry
-one_entry : (es : List Entry) (t : ℕ) (m : Leaf) (scope : ℕ) (l : Leaf) (e : ℕ) → named es t (word m) ≡ Some e → named es scope (word l) ≡ Some e
+one_entry : (es : List Entry) (t : ℕ) (m : Leaf) (scope : ℕ) (l : Leaf) (e : ℕ) → named es t (word m) ≡ Some e
+    → named es scope (word l) ≡ Some e
     → is_one_name t m scope l ≡ true
 one_entry es t m scope l e first second =
     let here = get_or es e blank in
-    let one = and_parts (nat_eq t here.scope) (same_but_for_case (word m) here.name) (position-Some (is_named t (word m)) es e blank first).1 in
-    let other = and_parts (nat_eq scope here.scope) (same_but_for_case (word l) here.name) (position-Some (is_named scope (word l)) es e blank second).1 in
+    let one = and_parts (nat_eq t here.scope) (same_but_for_case (word m) here.name)
+    (position-Some (is_named t (word m)) es e blank first).1 in
+    let other = and_parts (nat_eq scope here.scope) (same_but_for_case (word l) here.name)
+    (position-Some (is_named scope (word l)) es e blank second).1 in
     let scopes : t ≡ scope = eqb-true t here.scope one.0 ∙ sym (eqb-true scope here.scope other.0) in
     let names : lower (word m) ≡ lower (word l) =
-    (bytes_eq-Decides (lower (word m)) (lower here.name)).0 one.1 ∙ sym ((bytes_eq-Decides (lower (word l)) (lower here.name)).0 other.1) in
+    (bytes_eq-Decides (lower (word m)) (lower here.name)).0 one.1
+    ∙ sym ((bytes_eq-Decides (lower (word l)) (lower here.name)).0 other.1) in
     ap (λ b. b && same_but_for_case (word m) (word l)) (eq-eqb t scope scopes)
     ∙ (bytes_eq-Decides (lower (word m)) (lower (word l))).1 names
 
@@ -200,11 +232,14 @@ once_more true true spelled h is = refl
 once_more true false spelled h is = absurd cc
 once_more false may spelled h is = absurd cc
 
-may_again : (es : List Entry) (g : List Introduction) (scope : ℕ) (l : Leaf) (kind : EntryKind) → NoClash g (Stands scope l kind) → (e : ℕ)
+may_again : (es : List Entry) (g : List Introduction) (scope : ℕ) (l : Leaf) (kind : EntryKind)
+    → NoClash g (Stands scope l kind) → (e : ℕ)
     → named es scope (word l) ≡ Some e → Known es g e → may_reappear kind kind ≡ true
 may_again es [] scope l kind row e is knows = absurd knows
 may_again es (Stands t m other ∷ g) scope l kind (first, row) e is (inl stands) =
-    reappears_itself kind other (once_more (is_one_name t m scope l) (may_reappear kind other) (bytes_eq (word l) (word m)) first (one_entry es t m scope l e stands is))
+    reappears_itself kind other
+    (once_more (is_one_name t m scope l) (may_reappear kind other) (bytes_eq (word l) (word m)) first
+    (one_entry es t m scope l e stands is))
 may_again es (Has t m ∷ g) scope l kind row e is (inl stands) = absurd stands
 may_again es (Body t ∷ g) scope l kind row e is (inl stands) = absurd stands
 may_again es (x ∷ g) scope l kind (first, row) e is (inr knows) = may_again es g scope l kind row e is knows
@@ -221,11 +256,13 @@ is_new es g (Stands scope l kind) row = may_again es g scope l kind row
 is_new es g (Has scope l) row = tt
 is_new es g (Body s) row = no_body g s row
 
-rows_more : (y : Introduction) (g ys : List Introduction) → AllByRecursion (λ z. clashes y z ≡ false) ys → AllByRecursion (NoClash g) ys → AllByRecursion (NoClash (y ∷ g)) ys
+rows_more : (y : Introduction) (g ys : List Introduction) → AllByRecursion (λ z. clashes y z ≡ false) ys
+    → AllByRecursion (NoClash g) ys → AllByRecursion (NoClash (y ∷ g)) ys
 rows_more y g [] hs ks = tt
 rows_more y g (z ∷ zs) (h, hs) (k, ks) = ((h, k), rows_more y g zs hs ks)
 
-all_new : (es : List Entry) (g xs : List Introduction) → AllByRecursion (NoClash g) xs → IsDistinct clashes xs → AllNew es g xs
+all_new : (es : List Entry) (g xs : List Introduction) → AllByRecursion (NoClash g) xs → IsDistinct clashes xs
+    → AllNew es g xs
 unfolding IsDistinct
 all_new es g [] rows d = tt
 all_new es g (y ∷ ys) (row, rows) (d, ds) = (is_new es g y row, all_new es (y ∷ g) ys (rows_more y g ys d rows) ds)
@@ -236,34 +273,44 @@ no_rows (x ∷ xs) = (tt, no_rows xs)
 
 -- ---- the laws of names in one
 
-new_split : (es : List Entry) (g xs ys : List Introduction) → AllNew es g (xs ++ ys) → AllNew es g xs × AllNew es (onto xs g) ys
+new_split : (es : List Entry) (g xs ys : List Introduction) → AllNew es g (xs ++ ys)
+    → AllNew es g xs × AllNew es (onto xs g) ys
 new_split es g [] ys h = (tt, h)
 new_split es g (x ∷ xs) ys (h, hs) = let rest = new_split es (x ∷ g) xs ys hs in ((h, rest.0), rest.1)
 
-pub now_known : (es : List Entry) (g xs : List Introduction) (e k : ℕ) (x : Introduction) → k < length xs → get_or xs k x ≡ x → StandsFor es e x → Known es (onto xs g) e
+pub now_known : (es : List Entry) (g xs : List Introduction) (e k : ℕ) (x : Introduction) → k < length xs
+    → get_or xs k x ≡ x → StandsFor es e x → Known es (onto xs g) e
 now_known es g [] e k x lt is stands = absurd (omega (arith, lt))
-now_known es g (y ∷ ys) e zero x lt is stands = still_known es (y ∷ g) ys e (inl (subst (StandsFor es e) (sym is) stands))
+now_known es g (y ∷ ys) e zero x lt is stands =
+    still_known es (y ∷ g) ys e (inl (subst (StandsFor es e) (sym is) stands))
 now_known es g (y ∷ ys) e (suc k) x lt is stands = now_known es (y ∷ g) ys e k x (omega (arith, lt)) is stands
 
-known_more : (es : List Entry) (known : ℕ → Type 0) (g xs : List Introduction) → ((e : ℕ) → known e → Known es g e) → (e : ℕ)
+known_more : (es : List Entry) (known : ℕ → Type 0) (g xs : List Introduction) → ((e : ℕ) → known e → Known es g e)
+    → (e : ℕ)
     → known e ⊎ Any (StandsFor es e) xs → Known es (onto xs g) e
 known_more es known g xs knows e (inl is) = still_known es g xs e (knows e is)
 known_more es known g xs knows e (inr (k, x, lt, is, stands)) = now_known es g xs e k x lt is stands
 
-settle : (es : List Entry) (known : ℕ → Type 0) (g : List Introduction) (scope : ℕ) (steps : List Step) → ((e : ℕ) → known e → Known es g e)
-    → AllHold es scope steps → AllFollow known es scope steps → AllNew es g (introduced es scope steps) → AllSettled es g scope steps
+settle : (es : List Entry) (known : ℕ → Type 0) (g : List Introduction) (scope : ℕ) (steps : List Step)
+    → ((e : ℕ) → known e → Known es g e)
+    → AllHold es scope steps → AllFollow known es scope steps → AllNew es g (introduced es scope steps)
+    → AllSettled es g scope steps
 settle es known g scope [] knows holds follows new = tt
 settle es known g scope (s ∷ steps) knows (h, hs) (f, fs) new =
     let parts = new_split es g (introduced_by scope s) (introduced es (scope_behind es scope s) steps) new in
-    let one : Settled es g scope s = record { holds = h; finds = finds_more known (Known es g) es scope s knows f; new = parts.0 } in (
+    let one : Settled es g scope s =
+    record { holds = h; finds = finds_more known (Known es g) es scope s knows f; new = parts.0 } in (
       one,
-      settle es (λ e. known e ⊎ Any (StandsFor es e) (introduced_by scope s)) (onto (introduced_by scope s) g) (scope_behind es scope s) steps
+      settle es (λ e. known e ⊎ Any (StandsFor es e) (introduced_by scope s)) (onto (introduced_by scope s) g)
+          (scope_behind es scope s) steps
           (known_more es known g (introduced_by scope s) knows) hs fs parts.1,
     )
 
-pub all_settled : (spec : Spec) (names : FileNames) → AreNames spec.definitions.items names → AllSettled names.entries [] 0 (steps_of spec.definitions.items)
+pub all_settled : (spec : Spec) (names : FileNames) → AreNames spec.definitions.items names
+    → AllSettled names.entries [] 0 (steps_of spec.definitions.items)
 all_settled spec names h =
     let steps = steps_of spec.definitions.items in
     let all = introduced names.entries 0 steps in
-    settle names.entries (λ e. ⊥) [] 0 steps (λ e none. absurd none) (names_hold spec names h) (names_follow spec names h)
+    settle names.entries (λ e. ⊥) [] 0 steps (λ e none. absurd none) (names_hold spec names h)
+    (names_follow spec names h)
     (all_new names.entries [] all (no_rows all) (nothing_clashes spec.definitions.items names h))

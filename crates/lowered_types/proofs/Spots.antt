@@ -22,7 +22,8 @@ there_at (x ∷ xs) (suc k) lt = there_at xs k (omega (arith, lt))
 
 -- ---- one more at the end
 
-pub push_low : {T : Type 0} (xs : List T) (y : T) (k : ℕ) (x : T) → slice_get xs k ≡ Some x → slice_get (xs ++ y ∷ []) k ≡ Some x
+pub push_low : {T : Type 0} (xs : List T) (y : T) (k : ℕ) (x : T) → slice_get xs k ≡ Some x
+    → slice_get (xs ++ y ∷ []) k ≡ Some x
 push_low xs y k x is = get_push_low xs y k (slice_get_within xs k x is) ∙ is
 
 pub push_cases : {T : Type 0} (xs : List T) (y : T) (k : ℕ) (x : T) → slice_get (xs ++ y ∷ []) k ≡ Some x
@@ -32,18 +33,21 @@ push_cases [] y (suc k) x is = absurd cc
 push_cases (z ∷ zs) y zero x is = inl is
 push_cases (z ∷ zs) y (suc k) x is = by (push_cases zs y k x is)
   where
-    by : (slice_get zs k ≡ Some x) ⊎ ((k ≡ length zs) × (y ≡ x)) → (slice_get zs k ≡ Some x) ⊎ ((suc k ≡ length (z ∷ zs)) × (y ≡ x))
+    by : (slice_get zs k ≡ Some x) ⊎ ((k ≡ length zs) × (y ≡ x)) → (slice_get zs k ≡ Some x)
+        ⊎ ((suc k ≡ length (z ∷ zs)) × (y ≡ x))
     by (inl old) = inl old
     by (inr (at, same)) = inr (omega (arith, at), same)
 
 -- ---- one in the place of another
 
-pub set_here : {T : Type 0} (xs : List T) (e : ℕ) (x y : T) → slice_get xs e ≡ Some x → slice_get (slice_set xs e y) e ≡ Some y
+pub set_here : {T : Type 0} (xs : List T) (e : ℕ) (x y : T) → slice_get xs e ≡ Some x
+    → slice_get (slice_set xs e y) e ≡ Some y
 set_here [] e x y is = absurd cc
 set_here (z ∷ zs) zero x y is = refl
 set_here (z ∷ zs) (suc e) x y is = set_here zs e x y is
 
-pub set_other : {T : Type 0} (xs : List T) (e k : ℕ) (y : T) → (k ≡ e → ⊥) → slice_get (slice_set xs e y) k ≡ slice_get xs k
+pub set_other : {T : Type 0} (xs : List T) (e k : ℕ) (y : T) → (k ≡ e → ⊥)
+    → slice_get (slice_set xs e y) k ≡ slice_get xs k
 set_other [] e k y differ = refl
 set_other (z ∷ zs) zero zero y differ = absurd (differ refl)
 set_other (z ∷ zs) zero (suc k) y differ = refl
@@ -61,14 +65,16 @@ same_or_not (suc k) (suc e) = by (same_or_not k e)
     by (inl same) = inl (ap suc same)
     by (inr differ) = inr (λ same. differ (omega (arith, same)))
 
-pub set_cases : {T : Type 0} (xs : List T) (e : ℕ) (x y : T) (k : ℕ) (z : T) → slice_get xs e ≡ Some x → slice_get (slice_set xs e y) k ≡ Some z
+pub set_cases : {T : Type 0} (xs : List T) (e : ℕ) (x y : T) (k : ℕ) (z : T) → slice_get xs e ≡ Some x
+    → slice_get (slice_set xs e y) k ≡ Some z
     → ((k ≡ e) × (y ≡ z)) ⊎ ((k ≡ e → ⊥) × (slice_get xs k ≡ Some z))
 set_cases xs e x y k z is there = by (same_or_not k e)
   where
     by : (k ≡ e) ⊎ (k ≡ e → ⊥) → ((k ≡ e) × (y ≡ z)) ⊎ ((k ≡ e → ⊥) × (slice_get xs k ≡ Some z))
     by (inl same) =
         let here = set_here xs e x y is in
-        let at : slice_get (slice_set xs e y) e ≡ Some z = subst (λ j. slice_get (slice_set xs e y) j ≡ Some z) same there in
+        let at : slice_get (slice_set xs e y) e ≡ Some z =
+        subst (λ j. slice_get (slice_set xs e y) j ≡ Some z) same there in
         inl (same, cc)
     by (inr differ) = inr (differ, sym (set_other xs e k y differ) ∙ there)
 
@@ -87,7 +93,8 @@ unfolding total
 total_push f [] y = omega arith
 total_push f (x ∷ xs) y = omega (arith, total_push f xs y)
 
-total_set : {T : Type 0} (f : T → ℕ) (xs : List T) (e : ℕ) (x y : T) → slice_get xs e ≡ Some x → f x ≡ 0 → total f (slice_set xs e y) ≡ total f xs + f y
+total_set : {T : Type 0} (f : T → ℕ) (xs : List T) (e : ℕ) (x y : T) → slice_get xs e ≡ Some x → f x ≡ 0
+    → total f (slice_set xs e y) ≡ total f xs + f y
 unfolding total
 total_set f [] e x y is none = absurd cc
 total_set f (z ∷ zs) zero x y is none =
@@ -100,5 +107,7 @@ pub sum_push : {T : Type 0} (f : T → ℕ) (xs : List T) (y : T) → sum_by f (
 sum_push f xs y = sym (total_is f (xs ++ y ∷ [])) ∙ total_push f xs y ∙ ap (λ n. n + f y) (total_is f xs)
 
 -- in the place of what counts nothing
-pub sum_set : {T : Type 0} (f : T → ℕ) (xs : List T) (e : ℕ) (x y : T) → slice_get xs e ≡ Some x → f x ≡ 0 → sum_by f (slice_set xs e y) ≡ sum_by f xs + f y
-sum_set f xs e x y is none = sym (total_is f (slice_set xs e y)) ∙ total_set f xs e x y is none ∙ ap (λ n. n + f y) (total_is f xs)
+pub sum_set : {T : Type 0} (f : T → ℕ) (xs : List T) (e : ℕ) (x y : T) → slice_get xs e ≡ Some x → f x ≡ 0
+    → sum_by f (slice_set xs e y) ≡ sum_by f xs + f y
+sum_set f xs e x y is none = sym (total_is f (slice_set xs e y)) ∙ total_set f xs e x y is none
+    ∙ ap (λ n. n + f y) (total_is f xs)

@@ -18,8 +18,7 @@ use idl_tree::names::{At, Leaf, Listed};
 use idl_tree::types::Declarator;
 use scoped_names::{Names, Scope};
 use std::alloc::Global;
-use type_graph::Node;
-use type_graph::basic_types;
+use type_graph::{Node, basic_types};
 use type_paths::NodeSites;
 
 /// The first member of an exception's frame, its repository id.

@@ -5,8 +5,7 @@ ghost use Rattle.lowered_types.specs.TypeKinds.{const_kind, kind_of, node_kind};
 
 use crate::fault::TypeKind;
 use name_table::const_values::ConstKind;
-use type_graph::Node;
-use type_graph::basic_types;
+use type_graph::{Node, basic_types};
 
 fn node_kind(node: &Node) -> TypeKind
     ensures { result ≡ node_kind node.now }

@@ -14,15 +14,14 @@ use crate::members::MAX_MEMBERS;
 use crate::readings::{declared_entry, integer_number, read_value, resolved};
 use crate::simple::lower_enum;
 use crate::table::{TypeTable, find_type};
-use name_table::const_values::{ConstKind, Constant};
 use idl_tree::expression::Expr;
 use idl_tree::names::{At, Listed};
 use idl_tree::types::{Label, SwitchType};
+use name_table::const_values::{ConstKind, Constant};
 use scoped_names::{Names, Scope};
 use std::alloc::Global;
 use std::marker::Model;
-use type_graph::basic_types;
-use type_graph::{GraphLimit, Node, Values, Width};
+use type_graph::{GraphLimit, Node, Values, Width, basic_types};
 
 /// The discriminator of a union: its type, of which type its labels are constants, its values.
 #[derive(Clone, Copy)]

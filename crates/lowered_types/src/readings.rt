@@ -6,15 +6,14 @@ ghost use Rattle.lowered_types.specs.Faults.{Tells, of_names};
 ghost use Rattle.lowered_types.specs.SimpleTypes.{bound_of, bound_or_none, entry_found, entry_of, integer_number as number_of, size_of, sizes_read};
 
 use crate::fault::{BuildFault, at_most};
-use name_table::const_values::Constant;
 use idl_tree::const_expr::{Bound, ConstExpr};
 use idl_tree::expression::Expr;
 use idl_tree::names::{Leaf, ScopedName};
 use idl_tree::types::{Integer, IntegerSize};
+use name_table::const_values::Constant;
 use scoped_names::{NameFault, Names, Scope};
 use std::alloc::Global;
-use type_graph::GraphLimit;
-use type_graph::basic_types;
+use type_graph::{GraphLimit, basic_types};
 
 const MAX_SIZE: u32 = 1_048_576;
 

@@ -14,8 +14,7 @@ use idl_tree::names::{At, Leaf, Listed};
 use idl_tree::types::{ConstType, Declarator, EnumType, ParamType, SimpleType};
 use scoped_names::{Names, Scope};
 use std::alloc::{AllocError, Global};
-use type_graph::basic_types;
-use type_graph::{GraphLimit, Items, Node};
+use type_graph::{GraphLimit, Items, Node, basic_types};
 use type_model::Name;
 
 const MAX_ENUMERATORS: u32 = 65536;

@@ -8,13 +8,12 @@ ghost use Rattle.lowered_types.specs.Lowered.{added, added_at, already, counted,
 use crate::fault::{BuildFault, at_most};
 use crate::place::Place;
 use crate::readings::resolved;
-use type_graph::basic_types::basic_nodes;
 use idl_tree::names::{At, ScopedName};
 use scoped_names::{Names, Scope};
 use std::alloc::{AllocError, Global};
 use std::marker::Model;
-use type_graph::basic_types;
-use type_graph::{GraphLimit, Items, Members, Node};
+use type_graph::basic_types::basic_nodes;
+use type_graph::{GraphLimit, Items, Members, Node, basic_types};
 use type_model::Name;
 use type_paths::NodeSites;
 
@@ -42,7 +41,15 @@ impl Model for TypeTable {
 
     ghost Value = { Lowered };
 
-    ghost view = { λ t. record { nodes = t.nodes.items; names = t.names.items; places = t.places.items; exceptions = t.exceptions.items; sites = t.sites.items; members = t.members } };
+    ghost view = { λ t. record {
+      nodes = t.nodes.items;
+      names = t.names.items;
+      places = t.places.items;
+      exceptions =
+          t.exceptions.items;
+      sites = t.sites.items;
+      members = t.members;
+    } };
 }
 
 // A derived drop would stand in each function that lets go of a table, field by field.

@@ -69,7 +69,8 @@ quoted_ascii s h = IsAscii-take (drop 1 s) (run (λ c. not (c == 34)) (drop 1 s)
 said_word_ascii : (word rest : List ℕ) → IsAscii rest → SaidAscii (said_by_word word rest)
 said_word_ascii word rest h = by (bytes_eq word (codes "prefix")) (bytes_eq word (codes "ID"))
   where
-    by : (a b : Bool) → SaidAscii (if a then SetsPrefix (quoted_text rest) else if b then Gives (before_quote rest) (WholeId (quoted_text (from_quote rest)))
+    by : (a b : Bool) → SaidAscii (if a then SetsPrefix (quoted_text rest) else if b then
+        Gives (before_quote rest) (WholeId (quoted_text (from_quote rest)))
         else Gives (take (version_place rest) rest) (VersionOf (version_number (drop (version_place rest) rest))))
     by true b = quoted_ascii rest h
     by false true = quoted_ascii (from_quote rest) (IsAscii-drop rest (run (λ c. not (c == 34)) rest) h)
@@ -100,7 +101,8 @@ record IsPlain (st : State) : Type 0 where
   entries : (n : ℕ) (e : Entry) → slice_get st.entries n ≡ Some e → IsAscii e.prefix
   given : AllByRecursion (λ p. GivenAscii p.given) st.given
 
-pushed : (es : List Entry) (x : Entry) → ((n : ℕ) (e : Entry) → slice_get es n ≡ Some e → IsAscii e.prefix) → IsAscii x.prefix
+pushed : (es : List Entry) (x : Entry) → ((n : ℕ) (e : Entry) → slice_get es n ≡ Some e → IsAscii e.prefix)
+    → IsAscii x.prefix
     → (n : ℕ) (e : Entry) → slice_get (es ++ x ∷ []) n ≡ Some e → IsAscii e.prefix
 pushed es x all own n e h =
     let within = slice_get_within (es ++ x ∷ []) n e h in
@@ -114,7 +116,8 @@ pushed es x all own n e h =
         let same : x ≡ e = cc in
         subst (λ y. IsAscii y.prefix) same own
 
-declares_plain : (m : Meaning) (st next : State) (l : Leaf) (o : Option Entry) → declares_over m st l o ≡ Ok next → IsPlain st → IsPlain next
+declares_plain : (m : Meaning) (st next : State) (l : Leaf) (o : Option Entry) → declares_over m st l o ≡ Ok next
+    → IsPlain st → IsPlain next
 declares_plain m st next l None h p =
     let is : with_declared m st l ≡ next = cc in
     subst IsPlain is (record {
@@ -130,34 +133,43 @@ declared_keeps m st next l h p =
     let (u, test, rest) = then_ok (free_test l (taken_by st (word l))) (λ u. declares_over m st l o) next h in
     declares_plain m st next l o rest p
 
-given_once_plain : (ps qs : List IdPragma) (entry : ℕ) (given : GivenId) (here : At) (o : Option IdPragma) → given_once ps entry given here o ≡ Ok qs
+given_once_plain : (ps qs : List IdPragma) (entry : ℕ) (given : GivenId) (here : At) (o : Option IdPragma)
+    → given_once ps entry given here o ≡ Ok qs
     → AllByRecursion (λ p. GivenAscii p.given) ps → GivenAscii given → AllByRecursion (λ p. GivenAscii p.given) qs
 given_once_plain ps qs entry given here None h all own =
     let is : ps ++ record { entry = entry; given = given; at = here } ∷ [] ≡ qs = cc in
     subst (AllByRecursion (λ p. GivenAscii p.given)) is (push ps all)
   where
-    push : (xs : List IdPragma) → AllByRecursion (λ p. GivenAscii p.given) xs → AllByRecursion (λ p. GivenAscii p.given) (xs ++ record { entry = entry; given = given; at = here } ∷ [])
+    push : (xs : List IdPragma) → AllByRecursion (λ p. GivenAscii p.given) xs
+        → AllByRecursion (λ p. GivenAscii p.given) (xs ++ record { entry = entry; given = given; at = here } ∷ [])
     push [] h = (own, tt)
     push (x ∷ xs) h = (h.0, push xs h.1)
 given_once_plain ps qs entry given here (Some first) h all own =
-    let (u, test, rest) = then_ok (again_test first.given first.at given here) (λ u. let r : Result (List IdPragma) NameFault = Ok ps in r) qs h in
+    let (u, test, rest) = then_ok (again_test first.given first.at given here)
+    (λ u. let r : Result (List IdPragma) NameFault = Ok ps in r) qs h in
     let is : ps ≡ qs = cc in
     subst (AllByRecursion (λ p. GivenAscii p.given)) is all
 
-prefix_plain : (st next : State) (scope : ℕ) (text : List ℕ) (here : At) → prefix_set st scope text here ≡ Ok next → IsAscii text → IsPlain st → IsPlain next
+prefix_plain : (st next : State) (scope : ℕ) (text : List ℕ) (here : At) → prefix_set st scope text here ≡ Ok next
+    → IsAscii text → IsPlain st → IsPlain next
 prefix_plain st next zero text here h own p =
     let set : State = record st { prefix = text } in
     let is : set ≡ next = cc in
     subst IsPlain is (record { prefix = own; entries = p.entries; given = p.given })
 prefix_plain st next (suc e) text here h own p = absurd cc
 
-said_plain : (st next : State) (l : Leaf) (o : Option Said) → said_read st l o ≡ Ok next → MaySay o → IsPlain st → IsPlain next
+said_plain : (st next : State) (l : Leaf) (o : Option Said) → said_read st l o ≡ Ok next → MaySay o → IsPlain st
+    → IsPlain next
 said_plain st next l None h own p = let is : st ≡ next = cc in subst IsPlain is p
 said_plain st next l (Some (SetsPrefix text)) h own p = prefix_plain st next st.scope text (at l) h own p
 said_plain st next l (Some (Gives name given)) h own p =
-    let (e, finds, h1) = then_ok (found_at st.entries (at l) (identifiers_see st.entries l.number st.scope (begins_at_root name) (words_in name)))
-    (λ e. given_once st.given e given (at l) (pragma_for st.given e) >> λ ps. let r : StateOrFault = Ok (record st { given = ps }) in r) next h in
-    let (ps, gives, h2) = then_ok (given_once st.given e given (at l) (pragma_for st.given e)) (λ ps. let r : StateOrFault = Ok (record st { given = ps }) in r) next h1 in
+    let (e, finds, h1) = then_ok
+    (found_at st.entries (at l)
+    (identifiers_see st.entries l.number st.scope (begins_at_root name) (words_in name)))
+    (λ e. given_once st.given e given (at l) (pragma_for st.given e) >> λ ps. let r : StateOrFault =
+    Ok (record st { given = ps }) in r) next h in
+    let (ps, gives, h2) = then_ok (given_once st.given e given (at l) (pragma_for st.given e))
+    (λ ps. let r : StateOrFault = Ok (record st { given = ps }) in r) next h1 in
     let more : State = record st { given = ps } in
     let is : more ≡ next = cc in
     subst IsPlain is (record {
@@ -168,7 +180,8 @@ said_plain st next l (Some (Gives name given)) h own p =
 
 -- entries that differ in their bases alone
 like_plain : (es fs : List Entry) → ((k : ℕ) → option_map bare (slice_get fs k) ≡ option_map bare (slice_get es k))
-    → ((n : ℕ) (e : Entry) → slice_get es n ≡ Some e → IsAscii e.prefix) → (n : ℕ) (e : Entry) → slice_get fs n ≡ Some e → IsAscii e.prefix
+    → ((n : ℕ) (e : Entry) → slice_get es n ≡ Some e → IsAscii e.prefix) → (n : ℕ) (e : Entry) → slice_get fs n ≡ Some e
+    → IsAscii e.prefix
 like_plain es fs like all n e h = by (slice_get es n) refl (sym (like n) ∙ ap (option_map bare) h)
   where
     by : (o : Option Entry) → slice_get es n ≡ o → option_map bare o ≡ Some (bare e) → IsAscii e.prefix
@@ -177,11 +190,15 @@ like_plain es fs like all n e h = by (slice_get es n) refl (sym (like n) ∙ ap 
         let alike : bare y ≡ bare e = cc in
         subst IsAscii (ap (λ x. x.prefix) alike) (all n y is)
 
-base_plain : (st next : State) (inner : ℕ) (name : ScopedName) → base_added st inner name ≡ Ok next → IsPlain st → IsPlain next
+base_plain : (st next : State) (inner : ℕ) (name : ScopedName) → base_added st inner name ≡ Ok next → IsPlain st
+    → IsPlain next
 base_plain st next inner name h p =
-    let (e, finds, rest) = then_ok (resolved st.entries st.scope name) (λ e. with_base_at st inner (record { token = (name_start name).number; entry = e }) (at (name_start name))) next h in
+    let (e, finds, rest) = then_ok (resolved st.entries st.scope name)
+    (λ e. with_base_at st inner (record { token = (name_start name).number; entry = e }) (at (name_start name)))
+    next h in
     let base : Base = record { token = (name_start name).number; entry = e } in
-    let (u, test, told) = then_ok (base_test st inner base (at (name_start name))) (λ u. let r : StateOrFault = Ok (based st inner base) in r) next rest in
+    let (u, test, told) = then_ok (base_test st inner base (at (name_start name)))
+    (λ u. let r : StateOrFault = Ok (based st inner base) in r) next rest in
     let is : based st inner base ≡ next = cc in
     subst IsPlain is (record {
       prefix = p.prefix;
@@ -193,22 +210,29 @@ step_plain : (st next : State) (s : Step) → step_read st s ≡ Ok next → IsP
 step_plain st next (Declares kind l) h p = declared_keeps (plain l.number kind) st next l h p
 step_plain st next (DeclaresEnum l) h p =
     let m = enum_meant (length st.entries) l in
-    let (mid, declares, rest) = then_ok (declared_as m st l) (λ next. let r : StateOrFault = Ok (record next { enumeration = length st.entries }) in r) next h in
+    let (mid, declares, rest) =
+    then_ok (declared_as m st l) (λ next. let r : StateOrFault =
+    Ok (record next { enumeration = length st.entries }) in r) next h in
     let q = declared_keeps m st mid l declares p in
     let last : State = record mid { enumeration = length st.entries } in
     let is : last ≡ next = cc in
     subst IsPlain is (record { prefix = q.prefix; entries = q.entries; given = q.given })
-step_plain st next (DeclaresEnumerator l) h p = declared_keeps (enumerator_meant st.enumeration (length st.entries) l) st next l h p
-step_plain st next (DeclaresTypedef t d) h p = declared_keeps (typedef_meant (type_kind st t) d) st next d.identifier h p
+step_plain st next (DeclaresEnumerator l) h p =
+    declared_keeps (enumerator_meant st.enumeration (length st.entries) l) st next l h p
+step_plain st next (DeclaresTypedef t d) h p =
+    declared_keeps (typedef_meant (type_kind st t) d) st next d.identifier h p
 step_plain st next (DeclaresConst c) h p =
-    let (worth, is, rest) = then_ok (value_of_type (const_type_kind st.entries st.scope c.const_type) st.entries st.scope c.value.expr)
+    let (worth, is, rest) = then_ok
+    (value_of_type (const_type_kind st.entries st.scope c.const_type) st.entries st.scope c.value.expr)
     (λ worth. declared_as (const_meant c worth) st c.identifier) next h in
     declared_keeps (const_meant c worth) st next c.identifier rest p
 step_plain st next (DeclaresFeature kind l) h p =
-    let (u, free, rest) = then_ok (free_of st.entries l (inherited (features_of st.entries) l.number st.scope (word l))) (λ u. declared_plain kind st l) next h in
+    let (u, free, rest) = then_ok (free_of st.entries l (inherited (features_of st.entries) l.number st.scope (word l)))
+    (λ u. declared_plain kind st l) next h in
     declared_keeps (plain l.number kind) st next l rest p
 step_plain st next (HasMember l) h p =
-    let more : State = record st { members = st.members ++ record { scope = st.scope; name = word l; at = at l } ∷ [] } in
+    let more : State = record st { members = st.members ++ record { scope = st.scope; name = word l; at = at l } ∷ [] }
+    in
     let (u, test, rest) = then_ok (new_test st l) (λ u. let r : StateOrFault = Ok more in r) next h in
     let is : more ≡ next = cc in
     subst IsPlain is (record { prefix = p.prefix; entries = p.entries; given = p.given })
@@ -244,11 +268,14 @@ pub record SaysAscii (names : FileNames) : Type 0 where
 
 pub says_ascii : (definitions : List Definition) (names : FileNames) → AreNames definitions names → SaysAscii names
 says_ascii definitions names h =
-    let (read, reads, is) = then_ok (specification_read definitions) (λ st. let r : Result FileNames NameFault = Ok (file_names st) in r) names h in
-    let (st, steps, rest) = then_ok (steps_read nothing_yet (steps_of definitions)) (λ st. passed st (never_defined (left_open st 0 st.entries))) read reads in
+    let (read, reads, is) = then_ok (specification_read definitions)
+    (λ st. let r : Result FileNames NameFault = Ok (file_names st) in r) names h in
+    let (st, steps, rest) = then_ok (steps_read nothing_yet (steps_of definitions))
+    (λ st. passed st (never_defined (left_open st 0 st.entries))) read reads in
     let same = passed_same st (never_defined (left_open st 0 st.entries)) read rest in
     let whole_is : file_names st ≡ names = ap file_names same ∙ cc in
-    let p = steps_plain nothing_yet st (steps_of definitions) steps (record { prefix = IsAscii-nil; entries = λ n e none. cc; given = tt }) in
+    let p = steps_plain nothing_yet st (steps_of definitions) steps
+    (record { prefix = IsAscii-nil; entries = λ n e none. cc; given = tt }) in
     subst SaysAscii whole_is (record { prefixes = p.entries; given = p.given })
 
 -- ---- texts of entries
@@ -273,7 +300,8 @@ AllAscii ns = AllByRecursion IsAscii ns
 pub names_ascii : (es : List Entry) → AreProper es → (k s : ℕ) → AllAscii (names_to es k s)
 names_ascii es proper zero s = tt
 names_ascii es proper (suc k) zero = tt
-names_ascii es proper (suc k) (suc e) = push (names_to es k (around es (suc e))) (names_ascii es proper k (around es (suc e)))
+names_ascii es proper (suc k) (suc e) =
+    push (names_to es k (around es (suc e))) (names_ascii es proper k (around es (suc e)))
   where
     push : (ns : List (List ℕ)) → AllAscii ns → AllAscii (ns ++ name_in (slice_get es e) ∷ [])
     push [] h = (name_ascii es proper e, tt)
@@ -294,17 +322,21 @@ slashes_ascii (n ∷ ns) h = IsAscii-append n (flat_map (λ m. codes "/" ++ m) n
   where
     rest : (ns : List (List ℕ)) → AllAscii ns → IsAscii (flat_map (λ m. codes "/" ++ m) ns)
     rest [] h = IsAscii-nil
-    rest (n ∷ ns) h = IsAscii-append (codes "/" ++ n) (flat_map (λ m. codes "/" ++ m) ns) (IsAscii-append (codes "/") n (told_ascii (codes "/") refl) h.0) (rest ns h.1)
+    rest (n ∷ ns) h = IsAscii-append (codes "/" ++ n) (flat_map (λ m. codes "/" ++ m) ns)
+        (IsAscii-append (codes "/") n (told_ascii (codes "/") refl) h.0) (rest ns h.1)
 
 part_ascii : (prefix : List ℕ) → IsAscii prefix → IsAscii (prefix_part prefix)
 part_ascii [] h = IsAscii-nil
 part_ascii (c ∷ cs) h = IsAscii-append (c ∷ cs) (codes "/") h (told_ascii (codes "/") refl)
 
-format_ascii : (prefix : List ℕ) (ns : List (List ℕ)) (version : List ℕ) → IsAscii prefix → AllAscii ns → IsAscii version → IsAscii (idl_format prefix ns version)
+format_ascii : (prefix : List ℕ) (ns : List (List ℕ)) (version : List ℕ) → IsAscii prefix → AllAscii ns
+    → IsAscii version → IsAscii (idl_format prefix ns version)
 format_ascii prefix ns version p n v =
-    let first = IsAscii-append (codes "IDL:") (prefix_part prefix) (told_ascii (codes "IDL:") refl) (part_ascii prefix p) in
+    let first = IsAscii-append (codes "IDL:") (prefix_part prefix) (told_ascii (codes "IDL:") refl)
+    (part_ascii prefix p) in
     let second = IsAscii-append (codes "IDL:" ++ prefix_part prefix) (with_slashes ns) first (slashes_ascii ns n) in
-    let third = IsAscii-append (codes "IDL:" ++ prefix_part prefix ++ with_slashes ns) (codes ":") second (told_ascii (codes ":") refl) in
+    let third = IsAscii-append (codes "IDL:" ++ prefix_part prefix ++ with_slashes ns) (codes ":") second
+    (told_ascii (codes ":") refl) in
     IsAscii-append (codes "IDL:" ++ prefix_part prefix ++ with_slashes ns ++ codes ":") version third v
 
 abbrev MayGive : Option GivenId → Type 0
@@ -319,12 +351,15 @@ given_ascii (p ∷ ps) h e = by (nat_eq e p.entry) (given_ascii ps h.1 e)
     by true rest = h.0
     by false rest = rest
 
-id_ascii_by : (o : Option GivenId) (prefix : List ℕ) (ns : List (List ℕ)) → MayGive o → IsAscii prefix → AllAscii ns → IsAscii (id_by o prefix ns)
+id_ascii_by : (o : Option GivenId) (prefix : List ℕ) (ns : List (List ℕ)) → MayGive o → IsAscii prefix → AllAscii ns
+    → IsAscii (id_by o prefix ns)
 id_ascii_by None prefix ns g p n = format_ascii prefix ns (codes "1.0") p n (told_ascii (codes "1.0") refl)
 id_ascii_by (Some (WholeId text)) prefix ns g p n = g
 id_ascii_by (Some (VersionOf number)) prefix ns g p n = format_ascii prefix ns number p n g
 
-pub id_ascii : (names : FileNames) → AreProper names.entries → SaysAscii names → (e : ℕ) → IsAscii (repository_id names.entries names.rules e)
+pub id_ascii : (names : FileNames) → AreProper names.entries → SaysAscii names → (e : ℕ)
+    → IsAscii (repository_id names.entries names.rules e)
 id_ascii names proper says e =
-    id_ascii_by (given_to names.rules e) (prefix_in (slice_get names.entries e)) (path names.entries e) (given_ascii names.rules says.given e)
+    id_ascii_by (given_to names.rules e) (prefix_in (slice_get names.entries e)) (path names.entries e)
+    (given_ascii names.rules says.given e)
     (prefix_ascii names says e) (names_ascii names.entries proper (suc e) (suc e))

@@ -56,12 +56,16 @@ drop_length : (w : List ℕ) (n : ℕ) → length w ≡ n + 1 → length (drop 1
 drop_length [] n h = absurd (omega arith)
 drop_length (c ∷ cs) n h = omega arith
 
-identifier_letter : (text : List ℕ) → IsIdentifier text (length text) → is_ascii_alphabetic (slice_index (unescaped text) 0) ≡ true
-identifier_letter text (inl plain) = ap (λ w. is_ascii_alphabetic (slice_index w 0)) (plain_same text plain.word.first) ∙ plain.word.first
-identifier_letter text (inr escaped) = ap (λ w. is_ascii_alphabetic (slice_index w 0)) (escaped_rest text escaped.underscore) ∙ escaped.word.first
+identifier_letter : (text : List ℕ) → IsIdentifier text (length text)
+    → is_ascii_alphabetic (slice_index (unescaped text) 0) ≡ true
+identifier_letter text (inl plain) = ap (λ w. is_ascii_alphabetic (slice_index w 0)) (plain_same text plain.word.first)
+    ∙ plain.word.first
+identifier_letter text (inr escaped) =
+    ap (λ w. is_ascii_alphabetic (slice_index w 0)) (escaped_rest text escaped.underscore) ∙ escaped.word.first
 
 identifier_word : (text : List ℕ) → IsIdentifier text (length text) → list_all is_word (unescaped text) ≡ true
-identifier_word text (inl plain) = ap (list_all is_word) (plain_same text plain.word.first) ∙ all_run text plain.word.whole
+identifier_word text (inl plain) = ap (list_all is_word) (plain_same text plain.word.first)
+    ∙ all_run text plain.word.whole
 identifier_word text (inr escaped) =
     ap (list_all is_word) (escaped_rest text escaped.underscore)
     ∙ all_run (drop 1 text) (drop_length text escaped.inner escaped.length ∙ escaped.word.whole)
@@ -87,7 +91,8 @@ one_leaf : (l : Leaf) → HaveForms (asked (identifier l)) → IsLeafOf Ident l
 unfolding kept
 one_leaf l h = h.0
 
-step_words : (scope : ℕ) (s : Step) → HaveForms (asked (pieces_of s)) → AllByRecursion IsNamedByWord (introduced_by scope s)
+step_words : (scope : ℕ) (s : Step) → HaveForms (asked (pieces_of s))
+    → AllByRecursion IsNamedByWord (introduced_by scope s)
 step_words scope (Declares kind l) h = (one_leaf l h, tt)
 step_words scope (DeclaresEnum l) h = (one_leaf l h, tt)
 step_words scope (DeclaresEnumerator l) h = (one_leaf l h, tt)
@@ -98,11 +103,13 @@ step_words scope (HasMember l) h = (one_leaf l h, tt)
 step_words scope (Defines l) h = (tt, tt)
 step_words scope s h = tt
 
-both_all : {X : Type 0} (P : X → Type 0) (xs ys : List X) → AllByRecursion P xs → AllByRecursion P ys → AllByRecursion P (xs ++ ys)
+both_all : {X : Type 0} (P : X → Type 0) (xs ys : List X) → AllByRecursion P xs → AllByRecursion P ys
+    → AllByRecursion P (xs ++ ys)
 both_all P [] ys h k = k
 both_all P (x ∷ xs) ys (h, hs) k = (h, both_all P xs ys hs k)
 
-steps_words : (es : List Entry) (scope : ℕ) (steps : List Step) → HaveForms (asked_by steps) → AllByRecursion IsNamedByWord (introduced es scope steps)
+steps_words : (es : List Entry) (scope : ℕ) (steps : List Step) → HaveForms (asked_by steps)
+    → AllByRecursion IsNamedByWord (introduced es scope steps)
 steps_words es scope [] h = tt
 steps_words es scope (s ∷ steps) h =
     let parts = HaveForms-append (asked (pieces_of s)) (asked_by steps) h in
@@ -117,12 +124,15 @@ asked_forms (p ∷ ps) h = by (is_asked p.kind) refl (asked_forms ps h.1)
     by true is rest = rw is (h.0, rest)
     by false is rest = rw is rest
 
-pub spec_words : (spec : Spec) (es : List Entry) → AllByRecursion IsNamedByWord (introduced es 0 (steps_of spec.definitions.items))
+pub spec_words : (spec : Spec) (es : List Entry)
+    → AllByRecursion IsNamedByWord (introduced es 0 (steps_of spec.definitions.items))
 spec_words spec es =
     steps_words es 0 (steps_of spec.definitions.items)
-    (subst HaveForms (all_asked spec.definitions.items) (asked_forms (definitions_spelled spec.definitions.items) (Spec-forms spec)))
+    (subst HaveForms (all_asked spec.definitions.items)
+    (asked_forms (definitions_spelled spec.definitions.items) (Spec-forms spec)))
 
-one_of : {X : Type 0} (P : X → Type 0) (xs : List X) (k : ℕ) (x : X) → AllByRecursion P xs → k < length xs → slice_index_or xs k x ≡ x → P x
+one_of : {X : Type 0} (P : X → Type 0) (xs : List X) (k : ℕ) (x : X) → AllByRecursion P xs → k < length xs
+    → slice_index_or xs k x ≡ x → P x
 one_of P [] k x all lt is = absurd (omega arith)
 one_of P (y ∷ ys) zero x all lt is = subst P is all.0
 one_of P (y ∷ ys) (suc k) x all lt is = one_of P ys k x all.1 (omega arith) is
@@ -139,7 +149,8 @@ abbrev IsProper : List Entry → ℕ → Entry → Type 0
 IsProper es n e = IsNameWord e.name × (named es e.scope e.name ≡ Some n)
 
 -- by the identifier that stands for it
-proper_by : (es : List Entry) (n : ℕ) (e : Entry) (x : Introduction) → slice_get es n ≡ Some e → StandsFor es n x → IsEntry es x → IsNamedByWord x → IsProper es n e
+proper_by : (es : List Entry) (n : ℕ) (e : Entry) (x : Introduction) → slice_get es n ≡ Some e → StandsFor es n x
+    → IsEntry es x → IsNamedByWord x → IsProper es n e
 proper_by es n e (Stands scope l kind) at stands (m, f, is, here, kind_is, name_is) form =
     let number : m ≡ n = cc in
     let same : f ≡ e = let both : Some f ≡ Some e = sym here ∙ ap (slice_get es) number ∙ at in cc in
@@ -153,10 +164,12 @@ proper_by es n e (Stands scope l kind) at stands (m, f, is, here, kind_is, name_
 proper_by es n e (Has scope l) at stands is form = absurd stands
 proper_by es n e (Body scope) at stands is form = absurd stands
 
-entry_proper : (spec : Spec) (names : FileNames) → AreNames spec.definitions.items names → (n : ℕ) (e : Entry) → slice_get names.entries n ≡ Some e → IsProper names.entries n e
+entry_proper : (spec : Spec) (names : FileNames) → AreNames spec.definitions.items names → (n : ℕ) (e : Entry)
+    → slice_get names.entries n ≡ Some e → IsProper names.entries n e
 entry_proper spec names h n e at =
     let all = introduced names.entries 0 (steps_of spec.definitions.items) in
-    let (k, x, lt, is, stands) = nothing_else spec.definitions.items names h n (slice_get_within names.entries n e at) in
+    let (k, x, lt, is, stands) =
+    nothing_else spec.definitions.items names h n (slice_get_within names.entries n e at) in
     proper_by names.entries n e x at stands
     (one_of (IsEntry names.entries) all k x (declared_once spec.definitions.items names h) lt is)
     (one_of IsNamedByWord all k x (spec_words spec names.entries) lt is)

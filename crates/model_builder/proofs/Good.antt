@@ -37,31 +37,38 @@ good_walk es scope xs ys c g =
     let parts = holds_split es scope xs ys g.holds in
     introduced_both es scope xs ys ∙ ap (λ k. introduced es scope xs ++ introduced es k ys) (c.go es scope parts.0)
 
-pub good_both : (es : List Entry) (scope : ℕ) (xs ys : List Step) → Closed xs → Good es scope (xs ++ ys) → Good es scope xs × Good es scope ys
+pub good_both : (es : List Entry) (scope : ℕ) (xs ys : List Step) → Closed xs → Good es scope (xs ++ ys)
+    → Good es scope xs × Good es scope ys
 good_both es scope xs ys c g =
     let parts = holds_split es scope xs ys g.holds in
     let past = c.go es scope parts.0 in
     let all = good_walk es scope xs ys c g in
-    let apart = distinct_split clashes (introduced es scope xs) (introduced es scope ys) (subst (IsDistinct clashes) all g.apart) in
-    let words = all_split IsNamedByWord (introduced es scope xs) (introduced es scope ys) (subst (AllByRecursion IsNamedByWord) all g.words) in (
+    let apart = distinct_split clashes (introduced es scope xs) (introduced es scope ys)
+    (subst (IsDistinct clashes) all g.apart) in
+    let words = all_split IsNamedByWord (introduced es scope xs) (introduced es scope ys)
+    (subst (AllByRecursion IsNamedByWord) all g.words) in (
       record { holds = parts.0; apart = apart.0; words = words.0 },
       record { holds = subst (λ k. AllHold es k ys) past parts.1; apart = apart.1; words = words.1 },
     )
 
 -- a step that is done in the scope of the next
-pub good_tail : (es : List Entry) (scope : ℕ) (s : Step) (xs : List Step) → IsFlat s → Good es scope (s ∷ xs) → Holds es scope s × Good es scope xs
+pub good_tail : (es : List Entry) (scope : ℕ) (s : Step) (xs : List Step) → IsFlat s → Good es scope (s ∷ xs)
+    → Holds es scope s × Good es scope xs
 good_tail es scope s xs flat g =
     let same = flat_behind es scope s flat in
     let all : introduced es scope (s ∷ xs) ≡ introduced_by scope s ++ introduced es scope xs =
     ap (λ k. introduced_by scope s ++ introduced es k xs) same in
-    let apart = distinct_split clashes (introduced_by scope s) (introduced es scope xs) (subst (IsDistinct clashes) all g.apart) in
-    let words = all_split IsNamedByWord (introduced_by scope s) (introduced es scope xs) (subst (AllByRecursion IsNamedByWord) all g.words) in (
+    let apart = distinct_split clashes (introduced_by scope s) (introduced es scope xs)
+    (subst (IsDistinct clashes) all g.apart) in
+    let words = all_split IsNamedByWord (introduced_by scope s) (introduced es scope xs)
+    (subst (AllByRecursion IsNamedByWord) all g.words) in (
       g.holds.0,
       record { holds = subst (λ k. AllHold es k xs) same g.holds.1; apart = apart.1; words = words.1 },
     )
 
 -- what stands inside the scope of an entry
-pub good_inside : (es : List Entry) (scope : ℕ) (l : Leaf) (xs : List Step) (n : ℕ) → Closed xs → named es scope (word l) ≡ Some n
+pub good_inside : (es : List Entry) (scope : ℕ) (l : Leaf) (xs : List Step) (n : ℕ) → Closed xs
+    → named es scope (word l) ≡ Some n
     → Good es scope (Enters l ∷ (xs ++ Leaves ∷ [])) → Good es (suc n) xs
 good_inside es scope l xs n c is g =
     let (m, there, body) = inside_holds es scope l xs c g.holds in
@@ -71,17 +78,25 @@ good_inside es scope l xs n c is g =
     let all : introduced es scope (Enters l ∷ (xs ++ Leaves ∷ [])) ≡ introduced es (suc n) xs ++ [] =
     ap (λ k. introduced es k (xs ++ Leaves ∷ [])) inner ∙ introduced_both es (suc n) xs (Leaves ∷ []) in
     let apart = distinct_split clashes (introduced es (suc n) xs) [] (subst (IsDistinct clashes) all g.apart) in
-    let words = all_split IsNamedByWord (introduced es (suc n) xs) [] (subst (AllByRecursion IsNamedByWord) all g.words) in
+    let words = all_split IsNamedByWord (introduced es (suc n) xs) [] (subst (AllByRecursion IsNamedByWord) all g.words)
+    in
     record { holds = holds; apart = apart.0; words = words.0 }
 
 -- of lists of parts
-pub good_each : {T : Type 0} (es : List Entry) (scope : ℕ) (steps : T → List Step) → ((x : T) → Closed (steps x)) → (xs : List T) → Good es scope (flat_map steps xs)
+pub good_each : {T : Type 0} (es : List Entry) (scope : ℕ) (steps : T → List Step) → ((x : T) → Closed (steps x))
+    → (xs : List T) → Good es scope (flat_map steps xs)
     → AllByRecursion (λ x. Good es scope (steps x)) xs
 good_each es scope steps c [] g = tt
 good_each es scope steps c (x ∷ xs) g =
     let both = good_both es scope (steps x) (flat_map steps xs) (c x) g in
     (both.0, good_each es scope steps c xs both.1)
 
-pub spec_good : (spec : Spec) (names : FileNames) → AreNames spec.definitions.items names → Good names.entries 0 (steps_of spec.definitions.items)
+pub spec_good : (spec : Spec) (names : FileNames) → AreNames spec.definitions.items names
+    → Good names.entries 0 (steps_of spec.definitions.items)
 spec_good spec names h =
-    record { holds = names_hold spec names h; apart = nothing_clashes spec.definitions.items names h; words = spec_words spec names.entries }
+    record {
+      holds = names_hold spec names h;
+      apart = nothing_clashes spec.definitions.items names h;
+      words =
+          spec_words spec names.entries;
+    }

@@ -56,14 +56,18 @@ no_first c (e ∷ a) (d ∷ b) xs f h = let tail : a ≡ b ++ c ∷ xs = cc in n
 
 -- ---- names with colons between them
 
-colons_of : (n : List ℕ) (ns : List (List ℕ)) (x : List ℕ) → with_colons (n ∷ ns) ++ x ≡ n ++ 58 ∷ (58 ∷ (with_colons ns ++ x))
+colons_of : (n : List ℕ) (ns : List (List ℕ)) (x : List ℕ)
+    → with_colons (n ∷ ns) ++ x ≡ n ++ 58 ∷ (58 ∷ (with_colons ns ++ x))
 colons_of n ns x = append_assoc (n ++ codes "::") (with_colons ns) x ∙ append_assoc n (codes "::") (with_colons ns ++ x)
 
-pub colons_apart : (ns ms : List (List ℕ)) (x y : List ℕ) → AllByRecursion (IsFree 58) ns → AllByRecursion (IsFree 58) ms → IsFree 58 x → IsFree 58 y
+pub colons_apart : (ns ms : List (List ℕ)) (x y : List ℕ) → AllByRecursion (IsFree 58) ns
+    → AllByRecursion (IsFree 58) ms → IsFree 58 x → IsFree 58 y
     → with_colons ns ++ x ≡ with_colons ms ++ y → (ns ≡ ms) × (x ≡ y)
 colons_apart [] [] x y fn fm fx fy h = (refl, h)
-colons_apart [] (m ∷ ms) x y fn fm fx fy h = absurd (no_first 58 x m (58 ∷ (with_colons ms ++ y)) fx (h ∙ colons_of m ms y))
-colons_apart (n ∷ ns) [] x y fn fm fx fy h = absurd (no_first 58 y n (58 ∷ (with_colons ns ++ x)) fy (sym h ∙ colons_of n ns x))
+colons_apart [] (m ∷ ms) x y fn fm fx fy h =
+    absurd (no_first 58 x m (58 ∷ (with_colons ms ++ y)) fx (h ∙ colons_of m ms y))
+colons_apart (n ∷ ns) [] x y fn fm fx fy h =
+    absurd (no_first 58 y n (58 ∷ (with_colons ns ++ x)) fy (sym h ∙ colons_of n ns x))
 colons_apart (n ∷ ns) (m ∷ ms) x y fn fm fx fy h =
     let (head, behind) = first_apart 58 n m (58 ∷ (with_colons ns ++ x)) (58 ∷ (with_colons ms ++ y)) fn.0 fm.0
     (sym (colons_of n ns x) ∙ h ∙ colons_of m ms y) in
@@ -86,21 +90,29 @@ ending Reply = codes "/out"
 in_out : codes "in" ≡ codes "out" → ⊥
 in_out h = let first : 105 ≡ 111 = ap (λ l. slice_index l 0) h in omega (arith, first)
 
-pub endings_apart : (x y : List ℕ) (e f : Ending) → IsFree 47 x → IsFree 47 y → x ++ ending e ≡ y ++ ending f → (x ≡ y) × (e ≡ f)
+pub endings_apart : (x y : List ℕ) (e f : Ending) → IsFree 47 x → IsFree 47 y → x ++ ending e ≡ y ++ ending f
+    → (x ≡ y) × (e ≡ f)
 endings_apart x y Bare Bare fx fy h = (sym (append-nil x) ∙ h ∙ append-nil y, refl)
 endings_apart x y Bare Request fx fy h = absurd (no_first 47 x y (codes "in") fx (sym (append-nil x) ∙ h))
 endings_apart x y Bare Reply fx fy h = absurd (no_first 47 x y (codes "out") fx (sym (append-nil x) ∙ h))
 endings_apart x y Request Bare fx fy h = absurd (no_first 47 y x (codes "in") fy (sym (append-nil y) ∙ sym h))
-endings_apart x y Request Request fx fy h = let (same, rest) = first_apart 47 x y (codes "in") (codes "in") fx fy h in (same, refl)
-endings_apart x y Request Reply fx fy h = let (same, rest) = first_apart 47 x y (codes "in") (codes "out") fx fy h in absurd (in_out rest)
+endings_apart x y Request Request fx fy h = let (same, rest) = first_apart 47 x y (codes "in") (codes "in") fx fy h in
+    (same, refl)
+endings_apart x y Request Reply fx fy h = let (same, rest) = first_apart 47 x y (codes "in") (codes "out") fx fy h in
+    absurd (in_out rest)
 endings_apart x y Reply Bare fx fy h = absurd (no_first 47 y x (codes "out") fy (sym (append-nil y) ∙ sym h))
-endings_apart x y Reply Request fx fy h = let (same, rest) = first_apart 47 x y (codes "out") (codes "in") fx fy h in absurd (in_out (sym rest))
-endings_apart x y Reply Reply fx fy h = let (same, rest) = first_apart 47 x y (codes "out") (codes "out") fx fy h in (same, refl)
+endings_apart x y Reply Request fx fy h = let (same, rest) = first_apart 47 x y (codes "out") (codes "in") fx fy h in
+    absurd (in_out (sym rest))
+endings_apart x y Reply Reply fx fy h = let (same, rest) = first_apart 47 x y (codes "out") (codes "out") fx fy h in
+    (same, refl)
 
 pub ending_colons : (e : Ending) → IsFree 58 (ending e)
 ending_colons Bare = tt
 ending_colons Request = (λ h. omega (arith, h), (λ h. omega (arith, h), (λ h. omega (arith, h), tt)))
-ending_colons Reply = (λ h. omega (arith, h), (λ h. omega (arith, h), (λ h. omega (arith, h), (λ h. omega (arith, h), tt))))
+ending_colons Reply = (
+  λ h. omega (arith, h),
+  (λ h. omega (arith, h), (λ h. omega (arith, h), (λ h. omega (arith, h), tt))),
+)
 
 -- ---- what stands before a name
 
@@ -121,7 +133,8 @@ no_mark a rest letter h = no_letter (slice_index a 0) letter (ap (λ l. slice_in
 get_set : (a b : List ℕ) → codes "_get_" ++ a ≡ codes "_set_" ++ b → ⊥
 get_set a b h = let second : 103 ≡ 115 = ap (λ l. slice_index l 1) h in omega (arith, second)
 
-pub marks_apart : (a b : List ℕ) (r s : Role) → Begins a → Begins b → mark_of r ++ a ≡ mark_of s ++ b → (a ≡ b) × (r ≡ s)
+pub marks_apart : (a b : List ℕ) (r s : Role) → Begins a → Begins b → mark_of r ++ a ≡ mark_of s ++ b
+    → (a ≡ b) × (r ≡ s)
 marks_apart a b Operation Operation la lb h = (h, refl)
 marks_apart a b Operation Getting la lb h = absurd (no_mark a _ la h)
 marks_apart a b Operation Setting la lb h = absurd (no_mark a _ la h)

@@ -57,7 +57,8 @@ pub record AreRead (a : Arms) (ls : CaseLabels) (count : ℕ) : Type 0 where
   pub long : labels_read ls ≡ count
   pub free : IsFree a ls
 
-neither_there : (arm : domain keyword_at) (read : Option At) → option_or (keyword_at arm) read ≡ None → (arm ≡ None) × (read ≡ None)
+neither_there : (arm : domain keyword_at) (read : Option At) → option_or (keyword_at arm) read ≡ None
+    → (arm ≡ None) × (read ≡ None)
 neither_there None read h = (refl, h)
 neither_there (Some d) read h = absurd cc
 
@@ -140,7 +141,8 @@ arms_more arms number at (n ∷ ns) =
     let others = arms_more (with_arm arms new) number at ns in
     omega (arith, one, others)
 
-pub case_more : (a : Arms) (ls : CaseLabels) (count : ℕ) (name : List ℕ) (number : ℕ) (at : At) → AreRead a ls count → 1 ≤ count
+pub case_more : (a : Arms) (ls : CaseLabels) (count : ℕ) (name : List ℕ) (number : ℕ) (at : At) → AreRead a ls count
+    → 1 ≤ count
     → labels_in a + 1 ≤ labels_in (with_case a name number at ls)
 case_more a ls count name number at read some = by ls.default read.long read.free
   where

@@ -10,5 +10,6 @@ lowered_once a b = cc
 pub lowered_or_not : {A F : Type 0} → {r : Result A F} → {x : A} → {f : F} → r ≡ Ok x → r ≡ Err f → ⊥
 lowered_or_not a b = absurd cc
 
-pub refused_once : {A : Type 0} → {r : Result A BuildFault} → {one other : TypeFault} → r ≡ Err (Types one) → r ≡ Err (Types other) → one ≡ other
+pub refused_once : {A : Type 0} → {r : Result A BuildFault} → {one other : TypeFault} → r ≡ Err (Types one)
+    → r ≡ Err (Types other) → one ≡ other
 refused_once a b = cc

@@ -43,10 +43,13 @@ use Rattle.model_builder.proofs.PickedNames.{good_in, number_of}
 
 -- ---- interfaces
 
-declared_named : (es : List Entry) (scope : ℕ) (d : Defined) (x : Declaration) → HasTypes d → Good es scope (declaration_steps x) → Leaves HasTypes (declared es scope d x)
-declared_named es scope d x h g = and_then Has HasTypes (declaration es d.types scope x) _ (declaration_named es d.types scope x h g) (λ w k. k)
+declared_named : (es : List Entry) (scope : ℕ) (d : Defined) (x : Declaration) → HasTypes d
+    → Good es scope (declaration_steps x) → Leaves HasTypes (declared es scope d x)
+declared_named es scope d x h g =
+    and_then Has HasTypes (declaration es d.types scope x) _ (declaration_named es d.types scope x h g) (λ w k. k)
 
-export_named : (es : List Entry) (scope : ℕ) (d : Defined) (x : Export) → Good es scope (export_steps x) → HasTypes d → Leaves HasTypes (export es scope d x)
+export_named : (es : List Entry) (scope : ℕ) (d : Defined) (x : Export) → Good es scope (export_steps x) → HasTypes d
+    → Leaves HasTypes (export es scope d x)
 export_named es scope d (Exports.Pragma p) g h = h
 export_named es scope d (Exports.Declaration x) g h = declared_named es scope d x h g
 export_named es scope d (Exports.Attribute a) g h = attribute_named es scope d a h
@@ -59,7 +62,8 @@ reference_named d e h = by (place_of d.types e)
     by None = with_place_named d e (Typed 13) h
     by (Some (Typed n)) = when (nat_eq n 13)
       where
-        when : (b : Bool) → (let r : Result Defined BuildFault = if b then Ok d else Err OtherNames in Leaves HasTypes r)
+        when : (b : Bool) → (let r : Result Defined BuildFault = if b then Ok d else Err OtherNames in
+            Leaves HasTypes r)
         when true = h
         when false = tt
     by (Some p) = tt
@@ -67,14 +71,16 @@ reference_named d e h = by (place_of d.types e)
 with_interface_named : (d : Defined) (e : ℕ) (o : Offered) → HasTypes d → Leaves HasTypes (with_interface d e o)
 with_interface_named d e o h = by (nat_lt e (length d.interfaces))
   where
-    by : (b : Bool) → (let r : Result Defined BuildFault = if b then Ok (record d { interfaces = slice_set d.interfaces e (Some o) }) else Err OtherNames in Leaves HasTypes r)
+    by : (b : Bool) → (let r : Result Defined BuildFault = if b then
+        Ok (record d { interfaces = slice_set d.interfaces e (Some o) }) else Err OtherNames in Leaves HasTypes r)
     by true = h
     by false = tt
 
 export_closed : (x : Export) → Closed (export_steps x)
 export_closed x = closed (export_asks {ls = []} x)
 
-interface_named : (es : List Entry) (scope : ℕ) (d : Defined) (i : Interface) → Good es scope (interface_steps i) → HasTypes d → Leaves HasTypes (interface es scope d i)
+interface_named : (es : List Entry) (scope : ℕ) (d : Defined) (i : Interface) → Good es scope (interface_steps i)
+    → HasTypes d → Leaves HasTypes (interface es scope d i)
 interface_named es scope d (Ahead id) g h = behind HasTypes (entry_of es scope id) _ (λ e told. reference_named d e h)
 interface_named es scope d (Body id bases exports) g h =
     let xs = exports.items in
@@ -85,20 +91,23 @@ interface_named es scope d (Body id bases exports) g h =
     let (n, is) = number_of es scope id Kinds.Interface head.0.entries.0 in
     let past = (good_tail es scope (IsUndefined id) _ tt head.1).1 in
     let moved = subst (Good es scope) (append_assoc named (Enters id ∷ inner) (LeavesScope ∷ [])) past in
-    let body = (good_both es scope named (Enters id ∷ (inner ++ LeavesScope ∷ [])) (closed (bases_ask {ls = []} id bases)) moved).1 in
+    let body = (good_both es scope named (Enters id ∷ (inner ++ LeavesScope ∷ []))
+    (closed (bases_ask {ls = []} id bases)) moved).1 in
     let exports_closed : Closed all_exports = each_closed export_steps export_closed xs in
     behind HasTypes (entry_of es scope id) _ (λ e told.
     let inside = good_in es scope id inner n e (both_closed (one_closed (Defines id) tt) exports_closed) is told body in
     let good = (good_tail es (e + 1) (Defines id) all_exports tt inside).1 in
     and_then HasTypes HasTypes (as_reference d e) _ (reference_named d e h) (λ r k.
     and_then HasTypes HasTypes (each (export es (e + 1)) r xs) _
-    (each_leaves HasTypes (export es (e + 1)) (λ x. Good es (e + 1) (export_steps x)) (λ s x. export_named es (e + 1) s x) r xs (good_each es (e + 1) export_steps export_closed xs good) k)
+    (each_leaves HasTypes (export es (e + 1)) (λ x. Good es (e + 1) (export_steps x))
+    (λ s x. export_named es (e + 1) s x) r xs (good_each es (e + 1) export_steps export_closed xs good) k)
     (λ b m. with_interface_named b e (offering b (length d.operations) (bases_in (slice_get es e))) m)))
 
 -- ---- modules and files
 
 mutual
-  definition_named : (es : List Entry) (scope : ℕ) (d : Defined) (x : Definition) → Good es scope (definition_steps x) → HasTypes d → Leaves HasTypes (definition es scope d x)
+  definition_named : (es : List Entry) (scope : ℕ) (d : Defined) (x : Definition) → Good es scope (definition_steps x)
+      → HasTypes d → Leaves HasTypes (definition es scope d x)
   definition_named es scope d (Pragma p) g h = h
   definition_named es scope d (Declared x) g h = declared_named es scope d x h g
   definition_named es scope d (InterfaceDcl i) g h = interface_named es scope d i g h
@@ -110,12 +119,15 @@ mutual
       behind HasTypes (entry_of es scope id) _ (λ e told.
       definitions_named es (e + 1) d row (good_in es scope id body n e row_closed is told head.1) h)
 
-  definitions_named : {n : _} → (es : List Entry) (scope : ℕ) (d : Defined) (row : Row_of-Definition n) → Good es scope (definitions_steps row) → HasTypes d
+  definitions_named : {n : _} → (es : List Entry) (scope : ℕ) (d : Defined) (row : Row_of-Definition n)
+      → Good es scope (definitions_steps row) → HasTypes d
       → Leaves HasTypes (definitions_after es scope d row)
   definitions_named es scope d end_of-Definition g h = h
   definitions_named es scope d (more_of-Definition x rest) g h =
-      let both = good_both es scope (definition_steps x) (definitions_steps rest) (closed (definition_asks {ls = []} x)) g in
-      and_then HasTypes HasTypes (definition es scope d x) _ (definition_named es scope d x both.0 h) (λ next k. definitions_named es scope next rest both.1 k)
+      let both = good_both es scope (definition_steps x) (definitions_steps rest) (closed (definition_asks {ls = []} x))
+      g in
+      and_then HasTypes HasTypes (definition es scope d x) _ (definition_named es scope d x both.0 h)
+      (λ next k. definitions_named es scope next rest both.1 k)
 
 definition_closed : (x : Definition) → Closed (definition_steps x)
 definition_closed x = closed (definition_asks {ls = []} x)
@@ -123,7 +135,8 @@ definition_closed x = closed (definition_asks {ls = []} x)
 no_names : List (List ℕ)
 no_names = []
 
-unnamed : (count n : ℕ) (own : List (List ℕ)) → slice_get (replicate count no_names) n ≡ Some own → (own ≡ []) × (n < count)
+unnamed : (count n : ℕ) (own : List (List ℕ)) → slice_get (replicate count no_names) n ≡ Some own
+    → (own ≡ []) × (n < count)
 unfolding no_names
 unnamed zero n own is = absurd cc
 unnamed (suc count) zero own is = (sym cc, omega arith)
@@ -145,17 +158,20 @@ first_named entries = record {
   basic = λ n node is. let lt = slice_get_within basic_nodes n node is in (is, unnamed_there 14 n lt);
 }
 
-pub file_named : (spec : Spec) (names : FileNames) → AreNames spec.definitions.items names → (d : Defined) → defined_by names.entries spec.definitions.items ≡ Ok d → HasTypes d
+pub file_named : (spec : Spec) (names : FileNames) → AreNames spec.definitions.items names → (d : Defined)
+    → defined_by names.entries spec.definitions.items ≡ Ok d → HasTypes d
 file_named spec names h d is =
     let es = names.entries in
     let ds = spec.definitions.items in
     left HasTypes (defined_by es ds) d is
-    (each_leaves HasTypes (definition es 0) (λ x. Good es 0 (definition_steps x)) (λ s x. definition_named es 0 s x) (undefined_yet (length es)) ds
+    (each_leaves HasTypes (definition es 0) (λ x. Good es 0 (definition_steps x)) (λ s x. definition_named es 0 s x)
+    (undefined_yet (length es)) ds
     (good_each es 0 definition_steps definition_closed ds (spec_good spec names h)) (first_named (length es)))
 
 -- ---- what it says of all nodes
 
-each_of : (P : List (List ℕ) → Type 0) (names : List (List (List ℕ))) → ((n : ℕ) (own : List (List ℕ)) → slice_get names n ≡ Some own → P own) → AllByRecursion P names
+each_of : (P : List (List ℕ) → Type 0) (names : List (List (List ℕ)))
+    → ((n : ℕ) (own : List (List ℕ)) → slice_get names n ≡ Some own → P own) → AllByRecursion P names
 each_of P [] h = tt
 each_of P (own ∷ names) h = (h 0 own refl, each_of P names (λ n other is. h (suc n) other is))
 
@@ -183,6 +199,7 @@ one_for_one graph names h = record {
       subst (λ ns. HaveNames node (length ns)) (sym same) (other n node own beyond (h.each n node own is there).1);
 }
   where
-    other : (n : ℕ) (node : Node) (own : List (List ℕ)) → 14 ≤ n → (n < 14) ⊎ HaveNames node (length own) → HaveNames node (length own)
+    other : (n : ℕ) (node : Node) (own : List (List ℕ)) → 14 ≤ n → (n < 14) ⊎ HaveNames node (length own)
+        → HaveNames node (length own)
     other n node own beyond (inl lt) = absurd (omega (arith, beyond, lt))
     other n node own beyond (inr fits) = fits

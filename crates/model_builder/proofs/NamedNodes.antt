@@ -28,23 +28,27 @@ use Rattle.model_builder.specs.PartNames.{HaveNames}
 abbrev pub Leaves : {A : Type 0} → (A → Type 0) → Result A BuildFault → Type 0
 Leaves good result = MatchResult result good (λ fault. Unit {0})
 
-pub and_then : {A B : Type 0} (P : A → Type 0) (Q : B → Type 0) (r : Result A BuildFault) (next : A → Result B BuildFault) → Leaves P r
+pub and_then : {A B : Type 0} (P : A → Type 0) (Q : B → Type 0) (r : Result A BuildFault)
+    (next : A → Result B BuildFault) → Leaves P r
     → ((x : A) → P x → Leaves Q (next x)) → Leaves Q (r >> next)
 and_then P Q (Ok x) next h f = f x h
 and_then P Q (Err fault) next h f = tt
 
 -- behind what says nothing of names
-pub behind : {A B : Type 0} (Q : B → Type 0) (r : Result A BuildFault) (next : A → Result B BuildFault) → ((x : A) → r ≡ Ok x → Leaves Q (next x)) → Leaves Q (r >> next)
+pub behind : {A B : Type 0} (Q : B → Type 0) (r : Result A BuildFault) (next : A → Result B BuildFault)
+    → ((x : A) → r ≡ Ok x → Leaves Q (next x)) → Leaves Q (r >> next)
 behind Q (Ok x) next f = f x refl
 behind Q (Err fault) next f = tt
 
 pub left : {A : Type 0} (P : A → Type 0) (r : Result A BuildFault) (x : A) → r ≡ Ok x → Leaves P r → P x
 left P r x is h = subst (Leaves P) is h
 
-pub each_leaves : {S T : Type 0} (P : S → Type 0) (one : S → T → Result S BuildFault) (Q : T → Type 0) → ((s : S) (x : T) → Q x → P s → Leaves P (one s x))
+pub each_leaves : {S T : Type 0} (P : S → Type 0) (one : S → T → Result S BuildFault) (Q : T → Type 0)
+    → ((s : S) (x : T) → Q x → P s → Leaves P (one s x))
     → (s : S) (xs : List T) → AllByRecursion Q xs → P s → Leaves P (each one s xs)
 each_leaves P one Q f s [] all h = h
-each_leaves P one Q f s (x ∷ xs) (first, rest) h = and_then P P (one s x) (λ next. each one next xs) (f s x first h) (λ next k. each_leaves P one Q f next xs rest k)
+each_leaves P one Q f s (x ∷ xs) (first, rest) h =
+    and_then P P (one s x) (λ next. each one next xs) (f s x first h) (λ next k. each_leaves P one Q f next xs rest k)
 
 pub most_is : (most : ℕ) (which : GraphLimit) (at : At) (n k : ℕ) → at_most most which at n ≡ Ok k → k ≡ n
 most_is most which at n k is = by (nat_lt most n) is
@@ -54,7 +58,8 @@ most_is most which at n k is = by (nat_lt most n) is
     by false h = cc
 
 -- what comes first of two that give something
-pub then_done : {A B : Type 0} (r : Result A BuildFault) (next : A → Result B BuildFault) (y : B) → (r >> next) ≡ Ok y → (x : A) × (r ≡ Ok x) × (next x ≡ Ok y)
+pub then_done : {A B : Type 0} (r : Result A BuildFault) (next : A → Result B BuildFault) (y : B) → (r >> next) ≡ Ok y
+    → (x : A) × (r ≡ Ok x) × (next x ≡ Ok y)
 then_done (Ok x) next y h = (x, refl, h)
 then_done (Err fault) next y h = absurd cc
 
@@ -70,8 +75,10 @@ AreOf n node names = AreApart names × ((n < 14) ⊎ HaveNames node (length name
 
 pub record AreNamed (graph : List Node) (names : List (List (List ℕ))) : Type 0 where
   pub long : length names ≡ length graph
-  pub each : (n : ℕ) (node : Node) (own : List (List ℕ)) → slice_get graph n ≡ Some node → slice_get names n ≡ Some own → AreOf n node own
-  pub basic : (n : ℕ) (node : Node) → slice_get basic_nodes n ≡ Some node → (slice_get graph n ≡ Some node) × (slice_get names n ≡ Some [])
+  pub each : (n : ℕ) (node : Node) (own : List (List ℕ)) → slice_get graph n ≡ Some node → slice_get names n ≡ Some own
+      → AreOf n node own
+  pub basic : (n : ℕ) (node : Node) → slice_get basic_nodes n ≡ Some node
+      → (slice_get graph n ≡ Some node) × (slice_get names n ≡ Some [])
 
 abbrev pub Has : Lowered → Type 0
 Has w = AreNamed w.nodes w.names
@@ -79,7 +86,8 @@ Has w = AreNamed w.nodes w.names
 abbrev pub HasAll : Numbered → Type 0
 HasAll n = Has n.lowered
 
-push_named : (graph : List Node) (names : List (List (List ℕ))) (node : Node) (own : List (List ℕ)) → AreNamed graph names → AreApart own → HaveNames node (length own)
+push_named : (graph : List Node) (names : List (List (List ℕ))) (node : Node) (own : List (List ℕ))
+    → AreNamed graph names → AreApart own → HaveNames node (length own)
     → AreNamed (graph ++ node ∷ []) (names ++ own ∷ [])
 push_named graph names node own h apart fits =
     let long = h.long in
@@ -105,18 +113,22 @@ push_named graph names node own h apart fits =
     by n k ks (inr (at, same)) (inr (at_too, same_too)) =
         subst (λ m. AreOf n m ks) same (subst (AreOf n node) same_too (apart, inr fits))
 
-set_named : (graph : List Node) (names : List (List (List ℕ))) (number : ℕ) (node : Node) (own : List (List ℕ)) → AreNamed graph names
-    → slice_get graph number ≡ Some undefined → AreApart own → HaveNames node (length own) → AreNamed (slice_set graph number node) (slice_set names number own)
+set_named : (graph : List Node) (names : List (List (List ℕ))) (number : ℕ) (node : Node) (own : List (List ℕ))
+    → AreNamed graph names
+    → slice_get graph number ≡ Some undefined → AreApart own → HaveNames node (length own)
+    → AreNamed (slice_set graph number node) (slice_set names number own)
 set_named graph names number node own h waits apart fits = record {
   long = length-set names number own ∙ h.long ∙ sym (length-set graph number node);
   each = λ n k ks is told. by n k ks is told (same_or_not n number);
   basic = λ n k is. first n k is (same_or_not n number);
 }
   where
-    by : (n : ℕ) (k : Node) (ks : List (List ℕ)) → slice_get (slice_set graph number node) n ≡ Some k → slice_get (slice_set names number own) n ≡ Some ks
+    by : (n : ℕ) (k : Node) (ks : List (List ℕ)) → slice_get (slice_set graph number node) n ≡ Some k
+        → slice_get (slice_set names number own) n ≡ Some ks
         → (n ≡ number) ⊎ (n ≡ number → ⊥) → AreOf n k ks
     by n k ks is told (inr differs) =
-        h.each n k ks (sym (set_other graph number n node differs) ∙ is) (sym (set_other names number n own differs) ∙ told)
+        h.each n k ks (sym (set_other graph number n node differs) ∙ is)
+        (sym (set_other names number n own differs) ∙ told)
     by n k ks is told (inl same) =
         let lt = slice_get_within graph number undefined waits in
         let long = h.long in
@@ -127,7 +139,8 @@ set_named graph names number node own h waits apart fits = record {
       where
         here : n ≡ number → ((n ≡ number) × (node ≡ k)) ⊎ ((n ≡ number → ⊥) × (slice_get graph n ≡ Some k))
             → ((n ≡ number) × (own ≡ ks)) ⊎ ((n ≡ number → ⊥) × (slice_get names n ≡ Some ks)) → AreOf n k ks
-        here same (inl (at, one)) (inl (at_too, other)) = subst (λ m. AreOf n m ks) one (subst (AreOf n node) other (apart, inr fits))
+        here same (inl (at, one)) (inl (at_too, other)) =
+            subst (λ m. AreOf n m ks) one (subst (AreOf n node) other (apart, inr fits))
         here same (inr (differs, one)) other = absurd (differs same)
         here same one (inr (differs, other)) = absurd (differs same)
 
@@ -143,9 +156,11 @@ set_named graph names number node own h waits apart fits = record {
 
 -- ---- what is lowered
 
-pub added_named : (w : Lowered) (node : Node) (names : List (List ℕ)) (sites : Sites) → Has w → AreApart names → HaveNames node (length names) → Leaves HasAll (added w node names sites)
+pub added_named : (w : Lowered) (node : Node) (names : List (List ℕ)) (sites : Sites) → Has w → AreApart names
+    → HaveNames node (length names) → Leaves HasAll (added w node names sites)
 added_named w node names sites h apart fits =
-    behind HasAll (at_most max_nodes Nodes sites.at (next w + 1)) _ (λ n is. push_named w.nodes w.names node names h apart fits)
+    behind HasAll (at_most max_nodes Nodes sites.at (next w + 1)) _
+    (λ n is. push_named w.nodes w.names node names h apart fits)
 
 pub counted_named : (w : Lowered) (count : ℕ) (at : At) → Has w → Leaves Has (counted w count at)
 counted_named w count at h = behind Has (at_most max_all_members AllMembers at (w.members + count)) _ (λ all is. h)
@@ -158,10 +173,13 @@ placed_named w e p h = by (slice_get w.places e)
     by (Some None) = h
     by (Some (Some q)) = tt
 
-pub type_named : (w : Lowered) (e : ℕ) (node : Node) (names : List (List ℕ)) (at : At) → Has w → AreApart names → HaveNames node (length names) → Leaves HasAll (named_type w e node names at)
+pub type_named : (w : Lowered) (e : ℕ) (node : Node) (names : List (List ℕ)) (at : At) → Has w → AreApart names
+    → HaveNames node (length names) → Leaves HasAll (named_type w e node names at)
 type_named w e node names at h apart fits =
-    and_then HasAll HasAll (added w node names (one_site at)) _ (added_named w node names (one_site at) h apart fits) (λ a k.
-    and_then Has HasAll (placed a.lowered e (Typed a.number)) (λ there. Ok (already there a.number)) (placed_named a.lowered e (Typed a.number) k) (λ there m. m))
+    and_then HasAll HasAll (added w node names (one_site at)) _ (added_named w node names (one_site at) h apart fits)
+    (λ a k.
+    and_then Has HasAll (placed a.lowered e (Typed a.number)) (λ there. Ok (already there a.number))
+    (placed_named a.lowered e (Typed a.number) k) (λ there m. m))
 
 pub opened_named : (w : Lowered) (e : ℕ) (at : At) → Has w → Leaves HasAll (opened w e at)
 opened_named w e at h = by (type_of w e)
@@ -172,18 +190,26 @@ opened_named w e at h = by (type_of w e)
 
 pub raised_named : (w : Lowered) (e frame : ℕ) → Has w → Leaves Has (raised_at w e frame)
 raised_named w e frame h =
-    and_then Has Has (placed w e (Raised frame (length w.exceptions))) _ (placed_named w e (Raised frame (length w.exceptions)) h) (λ there k. k)
+    and_then Has Has (placed w e (Raised frame (length w.exceptions))) _
+    (placed_named w e (Raised frame (length w.exceptions)) h) (λ there k. k)
 
 waits : (o : Option Node) → is_undefined o ≡ true → o ≡ Some undefined
 waits None h = absurd cc
 waits (Some (Struct [])) h = refl
 waits (Some node) h = absurd cc
 
-pub defined_named : (w : Lowered) (number : ℕ) (node : Node) (names : List (List ℕ)) (held : List At) → Has w → AreApart names → HaveNames node (length names)
+pub defined_named : (w : Lowered) (number : ℕ) (node : Node) (names : List (List ℕ)) (held : List At) → Has w
+    → AreApart names → HaveNames node (length names)
     → Leaves Has (node_set w number node names held)
 defined_named w number node names held h apart fits = by (is_undefined (slice_get w.nodes number)) refl
   where
     by : (b : Bool) → is_undefined (slice_get w.nodes number) ≡ b
-        → Leaves Has (if b then Ok (record w { nodes = slice_set w.nodes number node; names = slice_set w.names number names; sites = held_at w.sites number held }) else Err OtherNames)
+        → Leaves Has (if b then Ok
+        (record w {
+          nodes = slice_set w.nodes number node;
+          names = slice_set w.names number names;
+          sites =
+              held_at w.sites number held;
+        }) else Err OtherNames)
     by true is = set_named w.nodes w.names number node names h (waits (slice_get w.nodes number) is) apart fits
     by false is = tt

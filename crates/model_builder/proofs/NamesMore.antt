@@ -8,4 +8,5 @@ pub given_more : {T : Type 0} (f : ℕ → List T) (xs ys all : List T) (k e : �
     → xs ++ flat_map f (range_with_len k (e - k)) ≡ all → ys ++ flat_map f (range_with_len (k + 1) (e - (k + 1))) ≡ all
 given_more f xs ys all k e lt pushed told =
     let left = flat_map f (range_with_len (k + 1) (e - (k + 1))) in
-    ap (λ y. y ++ left) pushed ∙ append_assoc xs (f k) left ∙ sym (ap (λ r. xs ++ flat_map f r) (range_step k e lt)) ∙ told
+    ap (λ y. y ++ left) pushed ∙ append_assoc xs (f k) left ∙ sym (ap (λ r. xs ++ flat_map f r) (range_step k e lt))
+    ∙ told

@@ -24,7 +24,8 @@ flat_goes st next (Declares kind l) flat h = (0, declared_goes 0 (plain l.number
 flat_goes st next (DeclaresEnum l) flat h = (0, enum_goes 0 st next l h (omega arith))
 flat_goes st next (DeclaresEnumerator l) flat h =
     (0, declared_goes 0 (enumerator_meant st.enumeration (length st.entries) l) st next l h (omega arith))
-flat_goes st next (DeclaresTypedef t d) flat h = (0, declared_goes 0 (typedef_meant (type_kind st t) d) st next d.identifier h (omega arith))
+flat_goes st next (DeclaresTypedef t d) flat h =
+    (0, declared_goes 0 (typedef_meant (type_kind st t) d) st next d.identifier h (omega arith))
 flat_goes st next (DeclaresConst c) flat h = (const_end c, const_goes st next c h)
 flat_goes st next (DeclaresFeature kind l) flat h = (0, feature_goes 0 kind st next l h (omega arith))
 flat_goes st next (HasMember l) flat h = (0, member_goes 0 st next l h)
@@ -35,7 +36,8 @@ flat_goes st next Leaves flat h = absurd flat
 flat_goes st next (Says l) flat h = (0, said_goes 0 st next l h)
 flat_goes st next s flat h = (0, goes_same 0 st next (passed_same st (test_of st s) next h))
 
-entered_low : (es : List Entry) (o : Option ℕ) (scope : ℕ) (name : List ℕ) → named es scope name ≡ o → scope_number o ≤ length es
+entered_low : (es : List Entry) (o : Option ℕ) (scope : ℕ) (name : List ℕ) → named es scope name ≡ o
+    → scope_number o ≤ length es
 entered_low es None scope name h = omega arith
 entered_low es (Some n) scope name h =
     let (e, here, in_scope) = named_entry es scope name n h in
@@ -50,7 +52,8 @@ left_low es (suc e) is = by (slice_get es e) refl
     by None h = omega arith
     by (Some x) h = let low = is.nested e x h in let lt = is.low in omega arith
 
-step_nested : (st next : State) (s : Step) → step_read st s ≡ Ok next → IsScope st.entries st.scope → IsScope next.entries next.scope
+step_nested : (st next : State) (s : Step) → step_read st s ≡ Ok next → IsScope st.entries st.scope
+    → IsScope next.entries next.scope
 step_nested st next (Enters l) h is =
     let entered : State = record st { scope = scope_of st.entries st.scope l } in
     let same : entered ≡ next = cc in
@@ -69,16 +72,20 @@ step_nested st next s h is =
     let scope = goes.scope in
     record { nested = goes.nested is; low = omega arith }
 
-steps_nested : (st next : State) (steps : List Step) → steps_read st steps ≡ Ok next → IsScope st.entries st.scope → AreNested next.entries
+steps_nested : (st next : State) (steps : List Step) → steps_read st steps ≡ Ok next → IsScope st.entries st.scope
+    → AreNested next.entries
 steps_nested st next [] h is = let same : st ≡ next = cc in subst (λ s. AreNested s.entries) same is.nested
 steps_nested st next (s ∷ steps) h is =
     let (mid, first, rest) = then_ok (step_read st s) (λ x. steps_read x steps) next h in
     steps_nested mid next steps rest (step_nested st mid s first is)
 
-pub entries_nested : (definitions : List Definition) (names : FileNames) → AreNames definitions names → AreNested names.entries
+pub entries_nested : (definitions : List Definition) (names : FileNames) → AreNames definitions names
+    → AreNested names.entries
 entries_nested definitions names h =
-    let (read, reads, is) = then_ok (specification_read definitions) (λ st. let r : Result FileNames NameFault = Ok (file_names st) in r) names h in
-    let (st, steps, rest) = then_ok (steps_read nothing_yet (steps_of definitions)) (λ st. passed st (never_defined (left_open st 0 st.entries))) read reads in
+    let (read, reads, is) = then_ok (specification_read definitions)
+    (λ st. let r : Result FileNames NameFault = Ok (file_names st) in r) names h in
+    let (st, steps, rest) = then_ok (steps_read nothing_yet (steps_of definitions))
+    (λ st. passed st (never_defined (left_open st 0 st.entries))) read reads in
     let same = passed_same st (never_defined (left_open st 0 st.entries)) read rest in
     let whole_is : file_names st ≡ names = ap file_names same ∙ cc in
     subst (λ w. AreNested w.entries) whole_is

@@ -12,11 +12,11 @@ use crate::paths::{check_paths, graph_of};
 use crate::signatures::{exceptions_of, interfaces_of, operations_of};
 use lowered_operations::{Offered, Signature};
 use lowered_types::TypeTable;
-use type_model::part_names::PartNames;
 use scoped_names::Names;
 use std::alloc::Global;
 use type_graph::{GraphFault, Items};
 use type_model::Model;
+use type_model::part_names::PartNames;
 
 /// The model of a file, and the names of the parts of its nodes.
 #[derive(Drop)]

@@ -3,10 +3,10 @@
 ghost use Rattle.std.specs.Prelude.{◌≡◌, All, IfOk};
 ghost use Rattle.type_model.specs.PartNamesNames.{AreApart};
 
-use type_model::part_names::{NodeNames, PartNames};
 use std::alloc::{AllocError, Global};
 use type_graph::Items;
 use type_model::Name;
+use type_model::part_names::{NodeNames, PartNames};
 
 /// The names of the parts of each node, which are apart.
 ///

@@ -6,9 +6,9 @@ ghost use Rattle.model_builder.specs.Faults.{IsRefusedBehind, path_told};
 ghost use Rattle.model_builder.specs.declared.fault.ModelFault.TheVariants.{NoMemory};
 
 use crate::fault::ModelFault;
-use type_graph::basic_types::BASIC_NODES;
 use lowered_types::{TypeFault, TypeTable};
 use std::alloc::Global;
+use type_graph::basic_types::BASIC_NODES;
 use type_graph::{Graph, GraphFault, GraphLimit, Node};
 use type_paths::{PathFault, find_path_fault};
 

@@ -20,7 +20,8 @@ unfolding piece kept
 asked_along none = refl
 asked_along (silent p unasked) = rw unasked
 asked_along (joined {ps = ps} {qs = qs} {xs = xs} {ys = ys} a b) =
-    filter-append (λ p. is_asked p.kind) ps qs ∙ ap (λ zs. zs ++ asked qs) (asked_along a) ∙ ap (λ zs. asked_by xs ++ zs) (asked_along b) ∙ sym (by_both xs ys)
+    filter-append (λ p. is_asked p.kind) ps qs ∙ ap (λ zs. zs ++ asked qs) (asked_along a)
+    ∙ ap (λ zs. asked_by xs ++ zs) (asked_along b) ∙ sym (by_both xs ys)
 asked_along (plain s is) = sym (append-nil (asked (pieces_of s)))
 asked_along (base text id name) = sym (append-nil (asked (name_yield name)))
 asked_along (valued c a) =
@@ -28,12 +29,14 @@ asked_along (valued c a) =
     let own = (identifier c.identifier ++ mark (codes "=")) ++ const_expr_yield c.value in
     let steps = const_type_steps c.const_type in
     filter-append (λ p. is_asked p.kind) front own ∙ ap (λ zs. zs ++ asked own) (asked_along a)
-    ∙ ap (λ zs. asked_by steps ++ zs) (sym (append-nil (asked (identifier c.identifier ++ const_expr_yield c.value)))) ∙ sym (by_both steps (IsNew c.identifier ∷ DeclaresConst c ∷ []))
+    ∙ ap (λ zs. asked_by steps ++ zs) (sym (append-nil (asked (identifier c.identifier ++ const_expr_yield c.value))))
+    ∙ sym (by_both steps (IsNew c.identifier ∷ DeclaresConst c ∷ []))
 asked_along (declared kind id a) = ap (λ ps. asked (identifier id) ++ ps) (asked_along a)
 asked_along (featured kind id a) = ap (λ ps. asked (identifier id) ++ ps) (asked_along a)
 asked_along (undefined kind id a) = ap (λ ps. asked (identifier id) ++ ps) (asked_along a)
 asked_along (inside {xs = xs} id a) = asked_along a ∙ sym (append-nil (asked_by xs)) ∙ sym (by_both xs (Leaves ∷ []))
 asked_along (defines id a) = asked_along a
 
-pub all_asked : (definitions : List Definition) → asked (definitions_spelled definitions) ≡ asked_by (steps_of definitions)
+pub all_asked : (definitions : List Definition) → asked (definitions_spelled definitions)
+    ≡ asked_by (steps_of definitions)
 all_asked definitions = asked_along (all_ask definitions)

@@ -69,13 +69,16 @@ IsPlain _ = Unit {0}
 pub data Asks : List Leaf → List Piece → List Step → Type 0 where
   none : {ls : List Leaf} → Asks ls [] []
   silent : {ls : List Leaf} (p : Piece) → is_asked p.kind ≡ false → Asks ls (p ∷ []) []
-  joined : {ls : List Leaf} {ps qs : List Piece} {xs ys : List Step} → Asks ls ps xs → Asks ls qs ys → Asks ls (ps ++ qs) (xs ++ ys)
+  joined : {ls : List Leaf} {ps qs : List Piece} {xs ys : List Step} → Asks ls ps xs → Asks ls qs ys
+      → Asks ls (ps ++ qs) (xs ++ ys)
   plain : {ls : List Leaf} (s : Step) → IsPlain s → Asks ls (pieces_of s) (s ∷ [])
   -- a base behind its mark
-  base : {ls : List Leaf} (text : List ℕ) (id : Leaf) (name : ScopedName) → Asks ls (mark text ++ name_yield name) (HasBase id name ∷ [])
+  base : {ls : List Leaf} (text : List ℕ) (id : Leaf) (name : ScopedName)
+      → Asks ls (mark text ++ name_yield name) (HasBase id name ∷ [])
   -- a constant's type, and then its name, `=` and its value
   valued : {ls : List Leaf} (c : Const) → Asks ls (const_type_yield c.const_type) (const_type_steps c.const_type)
-      → Asks ls (const_type_yield c.const_type ++ ((identifier c.identifier ++ mark (codes "=")) ++ const_expr_yield c.value))
+      → Asks ls (const_type_yield c.const_type
+      ++ ((identifier c.identifier ++ mark (codes "=")) ++ const_expr_yield c.value))
       (const_type_steps c.const_type ++ IsNew c.identifier ∷ DeclaresConst c ∷ [])
   -- what stands behind a declaration
   declared : {ls : List Leaf} {ps : List Piece} {xs : List Step} (kind : EntryKind) (id : Leaf) → Asks (id ∷ ls) ps xs
@@ -85,8 +88,10 @@ pub data Asks : List Leaf → List Piece → List Step → Type 0 where
   undefined : {ls : List Leaf} {ps : List Piece} {xs : List Step} (kind : EntryKind) (id : Leaf) → Asks (id ∷ ls) ps xs
       → Asks ls (identifier id ++ ps) (Declares kind id ∷ IsUndefined id ∷ xs)
   -- what stands inside
-  inside : {ls : List Leaf} {ps : List Piece} {xs : List Step} (id : Leaf) → Asks [] ps xs → Asks (id ∷ ls) ps (Enters id ∷ (xs ++ Leaves ∷ []))
-  defines : {ls : List Leaf} {ps : List Piece} {xs : List Step} (id : Leaf) → Asks ls ps xs → Asks ls ps (Defines id ∷ xs)
+  inside : {ls : List Leaf} {ps : List Piece} {xs : List Step} (id : Leaf) → Asks [] ps xs
+      → Asks (id ∷ ls) ps (Enters id ∷ (xs ++ Leaves ∷ []))
+  defines : {ls : List Leaf} {ps : List Piece} {xs : List Step} (id : Leaf) → Asks ls ps xs
+      → Asks ls ps (Defines id ∷ xs)
 
 -- ---- pieces that ask for nothing
 
@@ -113,26 +118,32 @@ ended {xs = xs} a b = grouped (append-nil xs) (joined a b)
 
 -- ---- lists of parts
 
-pub each_part : {ls : List Leaf} {T : Type 0} (yield : T → List Piece) (steps : T → List Step) → ((x : T) → Asks ls (yield x) (steps x)) → (xs : List T)
+pub each_part : {ls : List Leaf} {T : Type 0} (yield : T → List Piece) (steps : T → List Step)
+    → ((x : T) → Asks ls (yield x) (steps x)) → (xs : List T)
     → Asks ls (flat_map yield xs) (flat_map steps xs)
 each_part yield steps part [] = none
 each_part yield steps part (x ∷ xs) = joined (part x) (each_part yield steps part xs)
 
 -- one step for each
-pub each_step : {ls : List Leaf} {T : Type 0} (yield : T → List Piece) (step : T → Step) → ((x : T) → Asks ls (yield x) (step x ∷ [])) → (xs : List T)
+pub each_step : {ls : List Leaf} {T : Type 0} (yield : T → List Piece) (step : T → Step)
+    → ((x : T) → Asks ls (yield x) (step x ∷ [])) → (xs : List T)
     → Asks ls (flat_map yield xs) (map step xs)
 each_step yield step part [] = none
 each_step yield step part (x ∷ xs) = joined (part x) (each_step yield step part xs)
 
-pub listed_parts : {ls : List Leaf} {T : Type 0} (yield : T → List Piece) (steps : T → List Step) → ((x : T) → Asks ls (yield x) (steps x)) → (l : Listed T)
+pub listed_parts : {ls : List Leaf} {T : Type 0} (yield : T → List Piece) (steps : T → List Step)
+    → ((x : T) → Asks ls (yield x) (steps x)) → (l : Listed T)
     → Asks ls (listed yield l) (flat_map steps (parts l))
 listed_parts yield steps part l =
-    joined (part l.first) (each_part (λ x. mark (codes ",") ++ yield x) steps (λ x. begun (quiet (codes ",")) (part x)) l.rest.items)
+    joined (part l.first) (each_part (λ x. mark (codes ",") ++ yield x) steps (λ x. begun (quiet (codes ",")) (part x))
+    l.rest.items)
 
-listed_steps : {ls : List Leaf} {T : Type 0} (yield : T → List Piece) (step : T → Step) → ((x : T) → Asks ls (yield x) (step x ∷ [])) → (l : Listed T)
+listed_steps : {ls : List Leaf} {T : Type 0} (yield : T → List Piece) (step : T → Step)
+    → ((x : T) → Asks ls (yield x) (step x ∷ [])) → (l : Listed T)
     → Asks ls (listed yield l) (map step (parts l))
 listed_steps yield step part l =
-    joined (part l.first) (each_step (λ x. mark (codes ",") ++ yield x) step (λ x. begun (quiet (codes ",")) (part x)) l.rest.items)
+    joined (part l.first) (each_step (λ x. mark (codes ",") ++ yield x) step (λ x. begun (quiet (codes ",")) (part x))
+    l.rest.items)
 
 -- ---- types that declare nothing
 
@@ -168,7 +179,8 @@ param_type_asks ParamTypes.Object = word (codes "Object")
 pub simple_type_asks : {ls : List Leaf} (t : SimpleType) → Asks ls (simple_type_yield t) (simple_type_steps t)
 simple_type_asks (Plain t) = param_type_asks t
 simple_type_asks (Sequence' p element b) =
-    ended (joined (begun (joined (word (codes "sequence")) (quiet (codes "<"))) (simple_type_asks element)) (sequence_bound_asks b)) (quiet (codes ">"))
+    ended (joined (begun (joined (word (codes "sequence")) (quiet (codes "<"))) (simple_type_asks element))
+    (sequence_bound_asks b)) (quiet (codes ">"))
 
 -- ---- types
 
@@ -181,7 +193,8 @@ sizes_ask sizes = each_step size_yield size_step size_asks sizes
 pub declarator_asks : {ls : List Leaf} (d : Declarator) → Asks ls (declarator_yield d) (declarator_steps d)
 declarator_asks d = joined (plain (HasMember d.identifier) tt) (sizes_ask d.sizes.items)
 
-pub declarators_ask : {ls : List Leaf} (l : Listed Declarator) → Asks ls (listed declarator_yield l) (flat_map declarator_steps (parts l))
+pub declarators_ask : {ls : List Leaf} (l : Listed Declarator)
+    → Asks ls (listed declarator_yield l) (flat_map declarator_steps (parts l))
 declarators_ask l = listed_parts declarator_yield declarator_steps declarator_asks l
 
 pub enum_asks : {ls : List Leaf} (e : EnumType) → Asks ls (enum_yield e) (enum_steps e)
@@ -199,14 +212,16 @@ switch_asks (SwitchTypes.Name name) = plain (NamesType name) tt
 
 pub label_asks : {ls : List Leaf} (l : Label) → Asks ls (label_yield l) (label_steps l)
 unfolding kept
-label_asks (Labels.Case value) = ended (begun (word (codes "case")) (plain (HasWorth value.expr) tt)) (quiet (codes ":"))
+label_asks (Labels.Case value) =
+    ended (begun (word (codes "case")) (plain (HasWorth value.expr) tt)) (quiet (codes ":"))
 label_asks (Labels.Default l) = joined (silent _ refl) (quiet (codes ":"))
 
 pub labels_ask : {ls : List Leaf} (l : Listed Label) → Asks ls (in_order label_yield l) (flat_map label_steps (parts l))
 labels_ask l = joined (label_asks l.first) (each_part label_yield label_steps label_asks l.rest.items)
 
 -- a word, an identifier that is declared, and what stands inside it
-body_asks : {ls : List Leaf} {ps : List Piece} {xs : List Step} (text : List ℕ) (kind : EntryKind) (id : Leaf) → Asks [] ps xs
+body_asks : {ls : List Leaf} {ps : List Piece} {xs : List Step} (text : List ℕ) (kind : EntryKind) (id : Leaf)
+    → Asks [] ps xs
     → Asks ls (keyword text ++ (identifier id ++ ps)) (Declares kind id ∷ Enters id ∷ (xs ++ Leaves ∷ []))
 body_asks text kind id body = begun (word text) (declared kind id (inside id body))
 
@@ -228,8 +243,10 @@ mutual
   pub union_asks : {ls : List Leaf} (u : UnionType) → Asks ls (union_yield u) (union_steps u)
   union_asks (UnionType' id switch p labels t declarator shape rest) =
       let chosen = begun (joined (word (codes "switch")) (quiet (codes "("))) (switch_asks switch.value) in
-      let first = ended (joined (joined (labels_ask labels) (type_asks t)) (declarator_asks declarator)) (quiet (codes ";")) in
-      let cases = joined (joined (ended (ended chosen (quiet (codes ")"))) (quiet (codes "{"))) first) (cases_ask rest) in
+      let first = ended (joined (joined (labels_ask labels) (type_asks t)) (declarator_asks declarator))
+      (quiet (codes ";")) in
+      let cases = joined (joined (ended (ended chosen (quiet (codes ")"))) (quiet (codes "{"))) first) (cases_ask rest)
+      in
       body_asks (codes "union") Kinds.Union id (defines id (ended cases (quiet (codes "}"))))
 
   pub members_ask : {ls : List Leaf} {n : _} → (row : Row_of-Member n) → Asks ls (members_yield row) (members_steps row)
@@ -250,7 +267,8 @@ member_asks m = ended (joined (type_asks m.member_type) (declarators_ask m.decla
 
 pub type_dcl_asks : {ls : List Leaf} (t : TypeDcl) → Asks ls (type_dcl_yield t) (type_dcl_steps t)
 type_dcl_asks (TypeDcls.Typedef t declarators) =
-    let names = listed_parts declarator_yield (typedef_steps t) (λ d. joined (plain (DeclaresTypedef t d) tt) (sizes_ask d.sizes.items)) declarators in
+    let names = listed_parts declarator_yield (typedef_steps t)
+    (λ d. joined (plain (DeclaresTypedef t d) tt) (sizes_ask d.sizes.items)) declarators in
     joined (begun (word (codes "typedef")) (type_asks t)) names
 type_dcl_asks (TypeDcls.Struct s) = struct_asks s
 type_dcl_asks (TypeDcls.Union u) = union_asks u
@@ -266,7 +284,8 @@ last_four ps qs rs ts us = simp append_assoc
 
 pub const_asks : {ls : List Leaf} (c : Const) → Asks ls (const_yield c) (const_steps c)
 const_asks c =
-    moved (last_four (keyword (codes "const")) (const_type_yield c.const_type) (identifier c.identifier) (mark (codes "=")) (const_expr_yield c.value))
+    moved (last_four (keyword (codes "const")) (const_type_yield c.const_type) (identifier c.identifier)
+    (mark (codes "=")) (const_expr_yield c.value))
     (begun (word (codes "const")) (valued c (const_type_asks c.const_type)))
 
 pub except_asks : {ls : List Leaf} (e : Except) → Asks ls (except_yield e) (except_steps e)
@@ -282,7 +301,8 @@ declaration_asks (Declarations.Except e) = except_asks e
 
 -- ---- operations and attributes
 
-pub raises_ask : {ls : List Leaf} (text : List ℕ) (names : Listed ScopedName) → Asks ls (raises_yield text names) (raises_steps (parts names))
+pub raises_ask : {ls : List Leaf} (text : List ℕ) (names : Listed ScopedName)
+    → Asks ls (raises_yield text names) (raises_steps (parts names))
 raises_ask text names =
     let list = listed_steps name_yield NamesException (λ name. plain (NamesException name) tt) names in
     ended (begun (joined (word text) (quiet (codes "("))) list) (quiet (codes ")"))
@@ -296,10 +316,12 @@ feature_asks : {ls : List Leaf} (kind : EntryKind) (l : Leaf) → Asks ls (ident
 feature_asks kind l = plain (DeclaresFeature kind l) tt
 
 pub attributes_ask : {ls : List Leaf} (a : Attributes) → Asks ls (attributes_yield a) (attributes_steps a)
-attributes_ask (Silent only identifiers) = listed_steps identifier (DeclaresFeature Kinds.Attribute) (feature_asks Kinds.Attribute) identifiers
+attributes_ask (Silent only identifiers) =
+    listed_steps identifier (DeclaresFeature Kinds.Attribute) (feature_asks Kinds.Attribute) identifiers
 attributes_ask (Readonly id names) = joined (feature_asks Kinds.Attribute id) (raises_ask (codes "raises") names)
 attributes_ask (Get id get set) =
-    joined (joined (feature_asks Kinds.Attribute id) (raises_ask (codes "getraises") get)) (may_raise (codes "setraises") set)
+    joined (joined (feature_asks Kinds.Attribute id) (raises_ask (codes "getraises") get))
+    (may_raise (codes "setraises") set)
 attributes_ask (Set id set) = joined (feature_asks Kinds.Attribute id) (raises_ask (codes "setraises") set)
 
 readonly_asks : {ls : List Leaf} (only : Bool) → Asks ls (readonly_yield only) []
@@ -319,7 +341,8 @@ direction_asks InOut = word (codes "inout")
 -- where the operation is declared
 pub param_asks : {ls : List Leaf} (id : Leaf) (p : Param) → Asks (id ∷ ls) (param_yield p) (param_steps id p)
 param_asks id p =
-    joined (begun (direction_asks p.direction) (param_type_asks p.param_type)) (inside id (plain (HasMember p.identifier) tt))
+    joined (begun (direction_asks p.direction) (param_type_asks p.param_type))
+    (inside id (plain (HasMember p.identifier) tt))
 
 pub params_ask : {ls : List Leaf} (id : Leaf) (params : Option (Listed Param))
     → Asks (id ∷ ls) (optional (listed param_yield) params) (flat_map (param_steps id) (optional_parts params))
@@ -338,8 +361,10 @@ pub operation_asks : {ls : List Leaf} (o : Operation) → Asks ls (operation_yie
 operation_asks o =
     let front = oneway_yield o.is_oneway ++ result_yield o.result_type in
     let params = ended (begun (quiet (codes "(")) (params_ask o.identifier o.params)) (quiet (codes ")")) in
-    let named = joined (begun (oneway_asks o.is_oneway) (result_asks o.result_type)) (featured Kinds.Operation o.identifier params) in
-    let all = last_four front (identifier o.identifier) (mark (codes "(")) (optional (listed param_yield) o.params) (mark (codes ")")) in
+    let named = joined (begun (oneway_asks o.is_oneway) (result_asks o.result_type))
+    (featured Kinds.Operation o.identifier params) in
+    let all = last_four front (identifier o.identifier) (mark (codes "(")) (optional (listed param_yield) o.params)
+    (mark (codes ")")) in
     joined (moved all named) (may_raise (codes "raises") o.raises)
 
 -- ---- interfaces and modules
@@ -355,7 +380,8 @@ pub bases_ask : {ls : List Leaf} (id : Leaf) (bases : Option (Listed ScopedName)
 unfolding piece
 bases_ask id None = none
 bases_ask id (Some l) =
-    joined (base (codes ":") id l.first) (each_step (λ name. mark (codes ",") ++ name_yield name) (HasBase id) (base (codes ",") id) l.rest.items)
+    joined (base (codes ":") id l.first)
+    (each_step (λ name. mark (codes ",") ++ name_yield name) (HasBase id) (base (codes ",") id) l.rest.items)
 
 pub interface_asks : {ls : List Leaf} (i : Interface) → Asks ls (interface_yield i) (interface_steps i)
 unfolding piece kept
@@ -363,9 +389,11 @@ interface_asks (Ahead id) = begun (word (codes "interface")) (plain (Declares Ki
 interface_asks (Defined id bases exports) =
     let exported = begun (quiet (codes "{")) (each_part export_yield export_steps export_asks exports.items) in
     let body = inside id (defines id (ended exported (quiet (codes "}")))) in
-    let pieces = last_three (optional bases_yield bases) (mark (codes "{")) (flat_map export_yield exports.items) (mark (codes "}")) in
+    let pieces = last_three (optional bases_yield bases) (mark (codes "{")) (flat_map export_yield exports.items)
+    (mark (codes "}")) in
     let steps = append_assoc (map (HasBase id) (optional_parts bases)) _ (Leaves ∷ []) in
-    begun (word (codes "interface")) (undefined Kinds.Interface id (moved pieces (grouped (sym steps) (joined (bases_ask id bases) body))))
+    begun (word (codes "interface"))
+    (undefined Kinds.Interface id (moved pieces (grouped (sym steps) (joined (bases_ask id bases) body))))
 
 mutual
   unfolding piece kept
@@ -378,7 +406,8 @@ mutual
       let all = begun (quiet (codes "{")) (definitions_ask definitions) in
       ended (body_asks (codes "module") Kinds.Module id (ended all (quiet (codes "}")))) (quiet (codes ";"))
 
-  pub definitions_ask : {ls : List Leaf} {n : _} → (row : Row_of-Definition n) → Asks ls (definitions_yield row) (definitions_steps row)
+  pub definitions_ask : {ls : List Leaf} {n : _} → (row : Row_of-Definition n)
+      → Asks ls (definitions_yield row) (definitions_steps row)
   definitions_ask end_of-Definition = none
   definitions_ask (more_of-Definition d rest) = joined (definition_asks d) (definitions_ask rest)
 

@@ -20,19 +20,25 @@ abbrev pub union_body : Leaf → SwitchType → Case → List Step → List Step
 union_body id switch c others = opening Kinds.Union id ++ switch_steps switch ++ case_steps c ++ others ++ Leaves ∷ []
 
 pub struct_listed : (s : StructType)
-    → struct_steps s ≡ struct_body (out-StructType s).identifier (out-StructType s).first.value (flat_map member_steps (out-StructType s).rest.items)
+    → struct_steps s ≡ struct_body (out-StructType s).identifier (out-StructType s).first.value
+    (flat_map member_steps (out-StructType s).rest.items)
 struct_listed s =
-    struct_walk struct_steps (λ n row. members_steps row) struct_body [] (λ m others. member_steps m ++ others) (flat_map member_steps)
+    struct_walk struct_steps (λ n row. members_steps row) struct_body [] (λ m others. member_steps m ++ others)
+    (flat_map member_steps)
     (λ id p m shape row. refl) refl (λ n m row. refl) refl (λ m ms. refl) s
 
 pub union_listed : (u : UnionType)
     → union_steps u
-    ≡ union_body (out-UnionType u).identifier (out-UnionType u).switch.value (out-UnionType u).first.value (flat_map case_steps (out-UnionType u).rest.items)
+    ≡ union_body (out-UnionType u).identifier (out-UnionType u).switch.value (out-UnionType u).first.value
+    (flat_map case_steps (out-UnionType u).rest.items)
 union_listed u =
-    union_walk union_steps (λ n row. cases_steps row) union_body [] (λ c others. case_steps c ++ others) (flat_map case_steps)
+    union_walk union_steps (λ n row. cases_steps row) union_body [] (λ c others. case_steps c ++ others)
+    (flat_map case_steps)
     (λ id s p c shape row. refl) refl (λ n c row. refl) refl (λ c cs. refl) u
 
-pub module_listed : (m : ModuleRecord) → definition_steps (Module m) ≡ module_body m.identifier (flat_map definition_steps m.definitions.items)
+pub module_listed : (m : ModuleRecord) → definition_steps (Module m)
+    ≡ module_body m.identifier (flat_map definition_steps m.definitions.items)
 module_listed m =
-    module_walk definition_steps (λ n row. definitions_steps row) module_body [] (λ d others. definition_steps d ++ others) (flat_map definition_steps)
+    module_walk definition_steps (λ n row. definitions_steps row) module_body []
+    (λ d others. definition_steps d ++ others) (flat_map definition_steps)
     (λ id shape row. refl) refl (λ n d row. refl) refl (λ d ds. refl) m

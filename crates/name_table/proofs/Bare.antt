@@ -37,7 +37,8 @@ bases_bare (x ∷ xs) (suc (suc e)) (here, rest) = bases_bare xs (suc e) rest
 inherits_none : (es : List Entry) → HaveNoBases es → (t s : ℕ) (w : List ℕ) → inherited es t s w ≡ Nothing
 inherits_none es h zero s w = refl
 inherits_none es h (suc m) s w =
-    ap (λ x. both x (from_base (λ x. or_else (own es m x w) (inherited es m x w)) (base_at (bases_of es s) m))) (inherits_none es h m s w)
+    ap (λ x. both x (from_base (λ x. or_else (own es m x w) (inherited es m x w)) (base_at (bases_of es s) m)))
+    (inherits_none es h m s w)
     ∙ ap (λ bs. from_base (λ x. or_else (own es m x w) (inherited es m x w)) (base_at bs m)) (bases_bare es s h)
 
 bare_features : (es : List Entry) → HaveNoBases es → HaveNoBases (features_of es)
@@ -45,16 +46,19 @@ bare_features [] h = tt
 bare_features (e ∷ es) (here, rest) = (here, bare_features es rest)
 
 -- where nothing has bases, nothing is inherited
-pub features_inherit_none : (es : List Entry) → HaveNoBases es → (t s : ℕ) (w : List ℕ) → inherited (features_of es) t s w ≡ Nothing
+pub features_inherit_none : (es : List Entry) → HaveNoBases es → (t s : ℕ) (w : List ℕ)
+    → inherited (features_of es) t s w ≡ Nothing
 features_inherit_none es h t s w = inherits_none (features_of es) (bare_features es h) t s w
 
-pub features_differ_none : (es : List Entry) → HaveNoBases es → (inner : ℕ) (base : Base) → false ≡ differ (features_of es) inner base
+pub features_differ_none : (es : List Entry) → HaveNoBases es → (inner : ℕ) (base : Base)
+    → false ≡ differ (features_of es) inner base
 features_differ_none es h inner base =
     differ_none (features_of es) inner base (λ name. sym (features_inherit_none es h base.token inner name))
 
 -- ---- the first entries
 
-all_at : {X : Type 0} (P : X → Type 0) (xs : List X) (n : ℕ) (x : X) → AllByRecursion P xs → slice_get xs n ≡ Some x → P x
+all_at : {X : Type 0} (P : X → Type 0) (xs : List X) (n : ℕ) (x : X) → AllByRecursion P xs → slice_get xs n ≡ Some x
+    → P x
 all_at P [] n x h at = cc
 all_at P (y ∷ ys) zero x (here, rest) at = let same : y ≡ x = cc in subst P same here
 all_at P (y ∷ ys) (suc n) x (here, rest) at = all_at P ys n x rest at
@@ -104,7 +108,8 @@ named_swap a b =
     ap (λ c. c && same_but_for_case a.name b.name) (eq_swap a.scope b.scope)
     ∙ ap (λ c. nat_eq b.scope a.scope && c) (bytes_swap (map to_ascii_lowercase a.name) (map to_ascii_lowercase b.name))
 
-new_behind : (es : List Entry) (n : ℕ) (e : Entry) → AreDistinct es → slice_get es n ≡ Some e → named (take n es) e.scope e.name ≡ None
+new_behind : (es : List Entry) (n : ℕ) (e : Entry) → AreDistinct es → slice_get es n ≡ Some e
+    → named (take n es) e.scope e.name ≡ None
 unfolding IsDistinct
 new_behind [] n e d at = cc
 new_behind (x ∷ xs) zero e d at = refl

@@ -21,7 +21,8 @@ use Rattle.name_table.proofs.MergedBases.{inherited_case, like_of, lower, within
 
 -- ---- tests of elements
 
-any_true : {X : Type 0} (p : X → Bool) (xs : List X) (k : ℕ) (x : X) → slice_get xs k ≡ Some x → p x ≡ true → list_any p xs ≡ true
+any_true : {X : Type 0} (p : X → Bool) (xs : List X) (k : ℕ) (x : X) → slice_get xs k ≡ Some x → p x ≡ true
+    → list_any p xs ≡ true
 any_true p [] k x here holds = cc
 any_true p (y ∷ ys) zero x here holds =
     let same : y ≡ x = cc in
@@ -58,7 +59,19 @@ abbrev pub HasName : List Entry → ℕ → List ℕ → Type 0
 HasName es k w = (e : Entry) × (slice_get es k ≡ Some e) × (same_but_for_case w e.name ≡ true)
 
 blank : Entry
-blank = record { scope = 0; name = []; token = 0; kind = Module; bases = []; worth = None; stands_for = None; line = 0; identifier = 0; prefix = [] }
+blank = record {
+  scope = 0;
+  name = [];
+  token = 0;
+  kind = Module;
+  bases = [];
+  worth = None;
+  stands_for = None;
+  line =
+      0;
+  identifier = 0;
+  prefix = [];
+}
 
 pub named_at : (es : List Entry) (s : ℕ) (w : List ℕ) (k : ℕ) → named es s w ≡ Some k → HasName es k w
 named_at es s w k at =
@@ -103,18 +116,24 @@ own_named es n s w b h = by (named es s w) refl h
 inherited_named : (es : List Entry) (n s : ℕ) (w : List ℕ) (b : ℕ) → inherited es n s w ≡ One b → HasName es b w
 inherited_named es zero s w b h = absurd cc
 inherited_named es (suc m) s w b h =
-    pick (λ t x e. inherited_named es m x w b e) (both_one (inherited es m s w) (from_base (λ x. or_else (own es m x w) (inherited es m x w)) (base_at (bases_of es s) m)) b h)
+    pick (λ t x e. inherited_named es m x w b e)
+    (both_one (inherited es m s w)
+    (from_base (λ x. or_else (own es m x w) (inherited es m x w)) (base_at (bases_of es s) m)) b h)
   where
-    way : (k : ℕ) → (inherited es m (suc k) w ≡ One b → HasName es b w) → (own es m (suc k) w ≡ One b) ⊎ (inherited es m (suc k) w ≡ One b) → HasName es b w
+    way : (k : ℕ) → (inherited es m (suc k) w ≡ One b → HasName es b w) → (own es m (suc k) w ≡ One b)
+        ⊎ (inherited es m (suc k) w ≡ One b) → HasName es b w
     way k up (inl h) = own_named es m (suc k) w b h
     way k up (inr h) = up h
 
-    base : ((t x : ℕ) → inherited es m x w ≡ One b → HasName es b w) → (o : Option ℕ) → from_base (λ x. or_else (own es m x w) (inherited es m x w)) o ≡ One b → HasName es b w
+    base : ((t x : ℕ) → inherited es m x w ≡ One b → HasName es b w) → (o : Option ℕ)
+        → from_base (λ x. or_else (own es m x w) (inherited es m x w)) o ≡ One b → HasName es b w
     base up None h = absurd cc
     base up (Some k) h = way k (up 0 (suc k)) (else_one (own es m (suc k) w) (inherited es m (suc k) w) b h)
 
     pick : ((t x : ℕ) → inherited es m x w ≡ One b → HasName es b w)
-        → (inherited es m s w ≡ One b) ⊎ (from_base (λ x. or_else (own es m x w) (inherited es m x w)) (base_at (bases_of es s) m) ≡ One b) → HasName es b w
+        → (inherited es m s w ≡ One b)
+        ⊎ (from_base (λ x. or_else (own es m x w) (inherited es m x w)) (base_at (bases_of es s) m) ≡ One b)
+        → HasName es b w
     pick up (inl h) = up 0 s h
     pick up (inr h) = base up (base_at (bases_of es s) m) h
 
@@ -153,13 +172,15 @@ module _ (es : List Entry) (inner : ℕ) (base : Base) where
 
   pub differ_words : (words : List Word) → ((name : List ℕ) → SaysNothingNew es inner base name ⊎ HasWord words name)
       → list_any (λ k. differ_in es inner base k.text.now) words ≡ differ es inner base
-  differ_words words covers = both_ways (list_any (λ k. differ_in es inner base k.text.now) words) (differ es inner base) on off
+  differ_words words covers =
+      both_ways (list_any (λ k. differ_in es inner base k.text.now) words) (differ es inner base) on off
     where
       on : list_any (λ k. differ_in es inner base k.text.now) words ≡ true → differ es inner base ≡ true
       on h =
           let (i, k, here, holds) = any_found (λ k. differ_in es inner base k.text.now) words h in
           let w = k.text.now in
-          let (b, gives) = other_gives (inherited es base.token inner w) (within es base.token (suc base.entry) w) holds in
+          let (b, gives) = other_gives (inherited es base.token inner w) (within es base.token (suc base.entry) w) holds
+          in
           let (e, at, same) = within_named es base.token (suc base.entry) w b gives in
           let like = (bytes_eq-Decides (lower w) (lower e.name)).0 same in
           any_true (λ e. differ_in es inner base e.name) es b e at (sym (differ_case w e.name like) ∙ holds)
@@ -169,9 +190,15 @@ module _ (es : List Entry) (inner : ℕ) (base : Base) where
           let (i, e, here, holds) = any_found (λ e. differ_in es inner base e.name) es h in
           by e.name holds (covers e.name)
         where
-          by : (w : List ℕ) → differ_in es inner base w ≡ true → SaysNothingNew es inner base w ⊎ HasWord words w → list_any (λ k. differ_in es inner base k.text.now) words ≡ true
-          by w holds (inl nothing) = absurd (other_is_new (inherited es base.token inner w) (within es base.token (suc base.entry) w) holds nothing)
-          by w holds (inr (j, k, at, is)) = any_true (λ k. differ_in es inner base k.text.now) words j k at (sym (differ_case w k.text.now (like_of w k is)) ∙ holds)
+          by : (w : List ℕ) → differ_in es inner base w ≡ true → SaysNothingNew es inner base w ⊎ HasWord words w
+              → list_any (λ k. differ_in es inner base k.text.now) words ≡ true
+          by w holds (inl nothing) =
+              absurd (other_is_new (inherited es base.token inner w) (within es base.token (suc base.entry) w) holds
+              nothing)
+          by w holds (inr (j, k, at, is)) =
+              any_true (λ k. differ_in es inner base k.text.now) words j k at
+              (sym (differ_case w k.text.now (like_of w k is)) ∙ holds)
 
   pub differ_none : ((name : List ℕ) → Nothing ≡ inherited es base.token inner name) → false ≡ differ es inner base
-  differ_none none = sym (any_none (λ e. differ_in es inner base e.name) (λ e. ap (λ x. is_one_other x (within es base.token (suc base.entry) e.name)) (sym (none e.name))) es)
+  differ_none none = sym (any_none (λ e. differ_in es inner base e.name)
+      (λ e. ap (λ x. is_one_other x (within es base.token (suc base.entry) e.name)) (sym (none e.name))) es)

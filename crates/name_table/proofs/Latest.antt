@@ -12,7 +12,8 @@ base_low : (bs : List Base) (t b : ℕ) → base_at bs t ≡ Some b → t ≤ la
 base_low [] t b h = cc
 base_low (c ∷ cs) t b h = by (nat_eq c.token t) (base_low cs t b) refl h
   where
-    by : (q : Bool) → (base_at cs t ≡ Some b → t ≤ last_of cs) → nat_eq c.token t ≡ q → cond q (Some c.entry) (base_at cs t) ≡ Some b → t ≤ max c.token (last_of cs)
+    by : (q : Bool) → (base_at cs t ≡ Some b → t ≤ last_of cs) → nat_eq c.token t ≡ q
+        → cond q (Some c.entry) (base_at cs t) ≡ Some b → t ≤ max c.token (last_of cs)
     by true rest is h = let same = eqb-true c.token t is in omega arith
     by false rest is h = let low = rest h in omega arith
 
@@ -28,7 +29,8 @@ pub latest_push : (es : List Entry) (e : Entry) → e.bases ≡ [] → latest (e
 latest_push [] e none = ap (λ bs. max (last_of bs) 0) none
 latest_push (x ∷ xs) e none = ap (max (last_of x.bases)) (latest_push xs e none)
 
-pub latest_pushed : (records : List Record) (r : Record) → r.heir ≡ None → latest (entries_in (records ++ r ∷ [])) ≡ latest (entries_in records)
+pub latest_pushed : (records : List Record) (r : Record) → r.heir ≡ None
+    → latest (entries_in (records ++ r ∷ [])) ≡ latest (entries_in records)
 latest_pushed [] r none = ap (λ h. max (last_of (heir_bases h)) 0) none
 latest_pushed (x ∷ xs) r none = ap (max (last_of (heir_bases x.heir))) (latest_pushed xs r none)
 
@@ -47,10 +49,13 @@ latest_set (y ∷ ys) zero x base there low =
 latest_set (y ∷ ys) (suc e) x base there low = let rest = latest_set ys e x base there (omega arith) in omega arith
 
 -- a base that is named behind all others is the last
-pub latest_based : (es : List Entry) (e : ℕ) (x : Entry) (base : Base) → slice_get es e ≡ Some x → latest es ≤ base.token → latest (with_base es (suc e) base) ≡ base.token
-latest_based es e x base there low = ap (λ o. latest (entry_with_base es e base o)) there ∙ latest_set es e x base there low
+pub latest_based : (es : List Entry) (e : ℕ) (x : Entry) (base : Base) → slice_get es e ≡ Some x
+    → latest es ≤ base.token → latest (with_base es (suc e) base) ≡ base.token
+latest_based es e x base there low = ap (λ o. latest (entry_with_base es e base o)) there
+    ∙ latest_set es e x base there low
 
-pub latest_with : (es : List Entry) (inner : ℕ) (base : Base) → latest es ≤ base.token → latest (with_base es inner base) ≤ base.token
+pub latest_with : (es : List Entry) (inner : ℕ) (base : Base) → latest es ≤ base.token
+    → latest (with_base es inner base) ≤ base.token
 latest_with es zero base low = low
 latest_with es (suc e) base low = by (slice_get es e) refl
   where

@@ -29,7 +29,8 @@ use Rattle.name_table.proofs.Stability.{agree, constant}
 
 -- ---- one element that is changed
 
-get_here : {X : Type 0} (xs : List X) (e : ℕ) (x y : X) → slice_get xs e ≡ Some x → slice_get (slice_set xs e y) e ≡ Some y
+get_here : {X : Type 0} (xs : List X) (e : ℕ) (x y : X) → slice_get xs e ≡ Some x
+    → slice_get (slice_set xs e y) e ≡ Some y
 get_here [] e x y h = cc
 get_here (z ∷ zs) zero x y h = refl
 get_here (z ∷ zs) (suc e) x y h = get_here zs e x y h
@@ -41,19 +42,22 @@ get_other (z ∷ zs) zero (suc k) y h = refl
 get_other (z ∷ zs) (suc e) zero y h = refl
 get_other (z ∷ zs) (suc e) (suc k) y h = get_other zs e k y (λ is. h (ap suc is))
 
-pub get_like : {X A : Type 0} (f : Option X → A) (xs : List X) (e : ℕ) (x y : X) (k : ℕ) → slice_get xs e ≡ Some x → f (Some y) ≡ f (Some x) → f (slice_get (slice_set xs e y) k) ≡ f (slice_get xs k)
+pub get_like : {X A : Type 0} (f : Option X → A) (xs : List X) (e : ℕ) (x y : X) (k : ℕ) → slice_get xs e ≡ Some x
+    → f (Some y) ≡ f (Some x) → f (slice_get (slice_set xs e y) k) ≡ f (slice_get xs k)
 get_like f [] e x y k h same = cc
 get_like f (z ∷ zs) zero x y zero h same = same ∙ sym (ap f h)
 get_like f (z ∷ zs) zero x y (suc k) h same = refl
 get_like f (z ∷ zs) (suc e) x y zero h same = refl
 get_like f (z ∷ zs) (suc e) x y (suc k) h same = get_like f zs e x y k h same
 
-pub map_like : {X Y : Type 0} (f : X → Y) (xs : List X) (e : ℕ) (x y : X) → slice_get xs e ≡ Some x → f y ≡ f x → map f (slice_set xs e y) ≡ map f xs
+pub map_like : {X Y : Type 0} (f : X → Y) (xs : List X) (e : ℕ) (x y : X) → slice_get xs e ≡ Some x → f y ≡ f x
+    → map f (slice_set xs e y) ≡ map f xs
 map_like f [] e x y h same = cc
 map_like f (z ∷ zs) zero x y h same = let is : z ≡ x = cc in ap (λ r. r ∷ map f zs) (same ∙ sym (ap f is))
 map_like f (z ∷ zs) (suc e) x y h same = ap (λ r. f z ∷ r) (map_like f zs e x y h same)
 
-pub map_changed : {X Y : Type 0} (f : X → Y) (xs : List X) (e : ℕ) (y : X) → map f (slice_set xs e y) ≡ slice_set (map f xs) e (f y)
+pub map_changed : {X Y : Type 0} (f : X → Y) (xs : List X) (e : ℕ) (y : X)
+    → map f (slice_set xs e y) ≡ slice_set (map f xs) e (f y)
 map_changed f [] e y = refl
 map_changed f (z ∷ zs) zero y = refl
 map_changed f (z ∷ zs) (suc e) y = ap (λ r. f z ∷ r) (map_changed f zs e y)
@@ -67,11 +71,13 @@ same_or s t = by (nat_eq s t) refl
 
 -- ---- bases that are named
 
-base_at_push : (bs : List Base) (b : Base) (j : ℕ) → base_at bs j ≡ None → base_at (bs ++ b ∷ []) j ≡ cond (nat_eq b.token j) (Some b.entry) None
+base_at_push : (bs : List Base) (b : Base) (j : ℕ) → base_at bs j ≡ None
+    → base_at (bs ++ b ∷ []) j ≡ cond (nat_eq b.token j) (Some b.entry) None
 base_at_push [] b j h = refl
 base_at_push (c ∷ cs) b j h = by (nat_eq c.token j) (base_at_push cs b j) h
   where
-    by : (t : Bool) → (base_at cs j ≡ None → base_at (cs ++ b ∷ []) j ≡ cond (nat_eq b.token j) (Some b.entry) None) → cond t (Some c.entry) (base_at cs j) ≡ None
+    by : (t : Bool) → (base_at cs j ≡ None → base_at (cs ++ b ∷ []) j ≡ cond (nat_eq b.token j) (Some b.entry) None)
+        → cond t (Some c.entry) (base_at cs j) ≡ None
         → cond t (Some c.entry) (base_at (cs ++ b ∷ []) j) ≡ cond (nat_eq b.token j) (Some b.entry) None
     by true rest h = cc
     by false rest h = rest h
@@ -92,7 +98,8 @@ boxed_list (Some h) = refl
 
 module _ (keys : List Key) (records : List Record) (words : List (Vec Word Global)) (tied : AreTied keys records words)
     (e : ℕ) (r : Record) (there : slice_get records e ≡ Some r) (box : Box Heir Global) (base : Base)
-    (with_it : heir_list (Some box.value) ≡ heir_list (heir_of records (suc e)) ++ base ∷ []) (first_low : box.value.first.token ≤ base.token)
+    (with_it : heir_list (Some box.value) ≡ heir_list (heir_of records (suc e)) ++ base ∷ [])
+    (first_low : box.value.first.token ≤ base.token)
     (late : latest (entries_in records) < base.token) (placed : base.entry < length records)
     (merges : Merges (entries_in records) (suc e) base box.value) where
   abbrev heir : Heir
@@ -146,7 +153,8 @@ module _ (keys : List Key) (records : List Record) (words : List (Vec Word Globa
   bases_other s h = bases_kept after s ∙ ap heir_list (heir_other s h) ∙ sym (bases_kept records s)
 
   bases_here : bases_of fs (suc e) ≡ bases_of es (suc e) ++ base ∷ []
-  bases_here = bases_kept after (suc e) ∙ ap heir_list heir_here ∙ with_it ∙ ap (λ bs. bs ++ base ∷ []) (sym (bases_kept records (suc e)))
+  bases_here = bases_kept after (suc e) ∙ ap heir_list heir_here ∙ with_it
+      ∙ ap (λ bs. bs ++ base ∷ []) (sym (bases_kept records (suc e)))
 
   none_behind : (s j : ℕ) → m ≤ j → base_at (bases_of es s) j ≡ None
   none_behind s j h = by (base_at (bases_of es s) j) refl
@@ -160,7 +168,8 @@ module _ (keys : List Key) (records : List Record) (words : List (Vec Word Globa
 
   at_here : base_at (bases_of fs (suc e)) m ≡ Some base.entry
   at_here =
-      ap (λ bs. base_at bs m) bases_here ∙ base_at_push (bases_of es (suc e)) base m (none_behind (suc e) m (omega arith))
+      ap (λ bs. base_at bs m) bases_here
+      ∙ base_at_push (bases_of es (suc e)) base m (none_behind (suc e) m (omega arith))
       ∙ ap (λ t. cond t (Some base.entry) None) (eq-eqb m m refl)
 
   same_base : (s j : ℕ) → j < m → base_at (bases_of fs s) j ≡ base_at (bases_of es s) j
@@ -176,7 +185,8 @@ module _ (keys : List Key) (records : List Record) (words : List (Vec Word Globa
   early = agree es fs m same_base (λ n s w h. own_like n s w)
 
   early_within : (t s : ℕ) (w : List ℕ) → t ≤ m → within fs t s w ≡ within es t s w
-  early_within t s w h = ap (λ x. or_else x (inherited fs t s w)) (own_like t s w) ∙ ap (or_else (own es t s w)) (early t s w h)
+  early_within t s w h = ap (λ x. or_else x (inherited fs t s w)) (own_like t s w)
+      ∙ ap (or_else (own es t s w)) (early t s w h)
 
   -- what is kept of another base says what it did
   by_like : (t : ℕ) (w : List ℕ) (h : Heir) → h.first.token ≤ m → by_heir es t w (Some h) ≡ by_heir fs t w (Some h)
@@ -184,7 +194,8 @@ module _ (keys : List Key) (records : List Record) (words : List (Vec Word Globa
     where
       by : (g : Option Given) → by_given es t w h.first g ≡ by_given fs t w h.first g
       by (Some g) = refl
-      by None = ap (λ f. cond (nat_lt h.first.token t) f Nothing) (sym (early_within h.first.token (suc h.first.entry) w low))
+      by None = ap (λ f. cond (nat_lt h.first.token t) f Nothing)
+          (sym (early_within h.first.token (suc h.first.entry) w low))
 
   -- another scope inherits what it did
   other : (t s : ℕ) (w : List ℕ) → (s ≡ suc e → ⊥) → inherited fs t s w ≡ inherited es t s w
@@ -213,15 +224,20 @@ module _ (keys : List Key) (records : List Record) (words : List (Vec Word Globa
       by true is =
           let le = leb-true t m is in
           early t (suc e) w le
-          ∙ sym (ap (λ c. cond c (both (inherited es m (suc e) w) (within es m (suc base.entry) w)) (inherited es t (suc e) w)) (le-ltb m t le))
+          ∙ sym (ap (λ c. cond c (both (inherited es m (suc e) w) (within es m (suc base.entry) w))
+          (inherited es t (suc e) w)) (le-ltb m t le))
       by false is =
           let lt = leb-false t m is in
           let le : suc m ≤ t = omega arith in
-          constant fs (suc e) w (suc m) (λ j h. at_other j (λ same. absurd (omega arith)) ∙ none_behind (suc e) j (omega arith)) t le
-          ∙ ap (λ x. both x (from_base (λ s. or_else (own fs m s w) (inherited fs m s w)) (base_at (bases_of fs (suc e)) m))) (early m (suc e) w (omega arith))
-          ∙ ap (λ o. both (inherited es m (suc e) w) (from_base (λ s. or_else (own fs m s w) (inherited fs m s w)) o)) at_here
+          constant fs (suc e) w (suc m) (λ j h. at_other j (λ same. absurd (omega arith))
+          ∙ none_behind (suc e) j (omega arith)) t le
+          ∙ ap (λ x. both x (from_base (λ s. or_else (own fs m s w) (inherited fs m s w))
+          (base_at (bases_of fs (suc e)) m))) (early m (suc e) w (omega arith))
+          ∙ ap (λ o. both (inherited es m (suc e) w) (from_base (λ s. or_else (own fs m s w) (inherited fs m s w)) o))
+          at_here
           ∙ ap (both (inherited es m (suc e) w)) (early_within m (suc base.entry) w (omega arith))
-          ∙ sym (ap (λ c. cond c (both (inherited es m (suc e) w) (within es m (suc base.entry) w)) (inherited es t (suc e) w)) (lt-ltb m t lt))
+          ∙ sym (ap (λ c. cond c (both (inherited es m (suc e) w) (within es m (suc base.entry) w))
+          (inherited es t (suc e) w)) (lt-ltb m t lt))
 
   searched_after : AreSearched after
   searched_after t s w = by (same_or s (suc e))
@@ -241,7 +257,8 @@ module _ (keys : List Key) (records : List Record) (words : List (Vec Word Globa
           let same = count in
           omega arith
       by (inl is) (inl at) =
-          let found : Some base.entry ≡ Some b = sym at_here ∙ ap (base_at (bases_of fs (suc e))) at ∙ ap (λ x. base_at (bases_of fs x) t) (sym is) ∙ h in
+          let found : Some base.entry ≡ Some b = sym at_here ∙ ap (base_at (bases_of fs (suc e))) at
+          ∙ ap (λ x. base_at (bases_of fs x) t) (sym is) ∙ h in
           let entry : base.entry ≡ b = cc in
           let same = count in
           omega arith
@@ -256,7 +273,8 @@ module _ (keys : List Key) (records : List Record) (words : List (Vec Word Globa
       by : (k ≡ e) ⊎ (k ≡ e → ⊥) → x.key.scope.0 ≤ k
       by (inr ne) = tied.nested k x (sym (get_other records e k changed ne) ∙ h)
       by (inl is) =
-          let found : Some changed ≡ Some x = sym (get_here records e r changed there) ∙ ap (slice_get after) (sym is) ∙ h in
+          let found : Some changed ≡ Some x = sym (get_here records e r changed there) ∙ ap (slice_get after) (sym is)
+          ∙ h in
           let same : changed ≡ x = cc in
           let low = tied.nested e r there in
           subst (λ y. y.key.scope.0 ≤ k) same (omega arith)
@@ -272,37 +290,46 @@ module _ (keys : List Key) (records : List Record) (words : List (Vec Word Globa
 
   pub told_more : fs ≡ with_base es (suc e) base
   told_more =
-      let was : slice_get es e ≡ Some (entry_of r) = slice_get-map entry_of records e ∙ ap (option_map entry_of) there in
-      let old : heir_bases r.heir ≡ heir_list (heir_of records (suc e)) = boxed_list r.heir ∙ sym (ap (λ x. heir_list (heir_in x)) there) in
+      let was : slice_get es e ≡ Some (entry_of r) = slice_get-map entry_of records e
+      ∙ ap (option_map entry_of) there in
+      let old : heir_bases r.heir ≡ heir_list (heir_of records (suc e)) =
+      boxed_list r.heir ∙ sym (ap (λ x. heir_list (heir_in x)) there) in
       map_changed entry_of records e changed
       ∙ ap (λ bs. slice_set es e (record (entry_of r) { bases = bs })) (with_it ∙ ap (λ bs. bs ++ base ∷ []) (sym old))
       ∙ sym (ap (entry_with_base es e base) was)
 
   later : latest fs ≡ base.token
   later =
-      let was : slice_get es e ≡ Some (entry_of r) = slice_get-map entry_of records e ∙ ap (option_map entry_of) there in
+      let was : slice_get es e ≡ Some (entry_of r) = slice_get-map entry_of records e
+      ∙ ap (option_map entry_of) there in
       ap latest told_more ∙ latest_based es e (entry_of r) base was (omega arith)
 
   -- the interface's own way is dropped
-  pub ways_more : (ways more : List (Option Shortcut)) → AreShort es ways → ((q : ℕ) → way_at more q ≡ cond (nat_eq (suc e) q) None (way_at ways q)) → AreShort fs more
+  pub ways_more : (ways more : List (Option Shortcut)) → AreShort es ways
+      → ((q : ℕ) → way_at more q ≡ cond (nat_eq (suc e) q) None (way_at ways q)) → AreShort fs more
   ways_more ways more kept dropped =
       ways_like es fs more (omega (arith, later)) (λ q way at. kept q way (still q way (nat_eq (suc e) q) refl at))
-      (λ q way at t w. other t q w (λ is. let wrong : None ≡ Some way = sym gone ∙ ap (way_at more) (sym is) ∙ at in cc))
+      (λ q way at t w. other t q w (λ is. let wrong : None ≡ Some way = sym gone ∙ ap (way_at more) (sym is) ∙ at in
+      cc))
       (λ t q w h. early t q w (omega arith))
     where
       gone : way_at more (suc e) ≡ None
       gone = dropped (suc e) ∙ ap (λ b. cond b None (way_at ways (suc e))) (eq-eqb (suc e) (suc e) refl)
 
-      still : (q : ℕ) (way : Shortcut) (b : Bool) → nat_eq (suc e) q ≡ b → way_at more q ≡ Some way → way_at ways q ≡ Some way
-      still q way true is at = let wrong : None ≡ Some way = sym (dropped q ∙ ap (λ b. cond b None (way_at ways q)) is) ∙ at in cc
+      still : (q : ℕ) (way : Shortcut) (b : Bool) → nat_eq (suc e) q ≡ b → way_at more q ≡ Some way
+          → way_at ways q ≡ Some way
+      still q way true is at = let wrong : None ≡ Some way = sym (dropped q ∙ ap (λ b. cond b None (way_at ways q)) is)
+          ∙ at in cc
       still q way false is at = sym (dropped q ∙ ap (λ b. cond b None (way_at ways q)) is) ∙ at
 
 -- ---- what is kept before
 
-pub kept_of : (records : List Record) → AreSearched records → (s : ℕ) (h : Heir) → heir_of records s ≡ Some h → IsKept (entries_in records) s h
+pub kept_of : (records : List Record) → AreSearched records → (s : ℕ) (h : Heir) → heir_of records s ≡ Some h
+    → IsKept (entries_in records) s h
 kept_of records searched s h there t w = searched t s w ∙ ap (by_heir (entries_in records) t w) there
 
-pub none_from : (records : List Record) (token : ℕ) → latest (entries_in records) < token → (s : ℕ) → HasNoneFrom (entries_in records) s token
+pub none_from : (records : List Record) (token : ℕ) → latest (entries_in records) < token → (s : ℕ)
+    → HasNoneFrom (entries_in records) s token
 none_from records token late s j low = by (base_at (bases_of (entries_in records) s) j) refl
   where
     by : (o : Option ℕ) → base_at (bases_of (entries_in records) s) j ≡ o → o ≡ None
@@ -310,11 +337,13 @@ none_from records token late s j low = by (base_at (bases_of (entries_in records
     by (Some b) is = let le = bases_low (entries_in records) s j b is in absurd (omega arith)
 
 -- the first base is named before the next
-pub first_before : (records : List Record) (s token : ℕ) (h : Heir) → heir_of records s ≡ Some h → HasNoneFrom (entries_in records) s token → h.first.token < token
+pub first_before : (records : List Record) (s token : ℕ) (h : Heir) → heir_of records s ≡ Some h
+    → HasNoneFrom (entries_in records) s token → h.first.token < token
 first_before records s token h there last = by (leb token h.first.token) refl
   where
     by : (b : Bool) → leb token h.first.token ≡ b → h.first.token < token
     by true is =
-        let none : Some h.first.entry ≡ None = sym (first_base records s h there) ∙ last h.first.token (leb-true token h.first.token is) in
+        let none : Some h.first.entry ≡ None = sym (first_base records s h there)
+        ∙ last h.first.token (leb-true token h.first.token is) in
         cc
     by false is = let lt = leb-false token h.first.token is in omega arith

@@ -21,9 +21,11 @@ none_any p keys h = by (position p keys) (position_any p keys ∙ h)
     by (Some n) h = cc
 
 -- one more key
-module _ {K : Type 0} (cmp : K → K → Ordering) (o : IsTotalOrder cmp) (numbers more : List (K × ℕ)) (keys : List K) (kept : AreNumbered cmp numbers keys) (key : K)
+module _ {K : Type 0} (cmp : K → K → Ordering) (o : IsTotalOrder cmp) (numbers more : List (K × ℕ)) (keys : List K)
+    (kept : AreNumbered cmp numbers keys) (key : K)
     (fresh : position (is_at (cmp key)) keys ≡ None) (longer : length more ≡ length numbers + 1)
-    (updated : (q : K) → lookup (is_at (cmp q)) more ≡ cond (is_at (cmp key) q) (Some (length numbers)) (lookup (is_at (cmp q)) numbers)) where
+    (updated : (q : K) → lookup (is_at (cmp q)) more
+    ≡ cond (is_at (cmp key) q) (Some (length numbers)) (lookup (is_at (cmp q)) numbers)) where
   equal : IsEquivalence (eq_by_cmp cmp)
   equal = eq_by_cmp_equiv o
 
@@ -36,7 +38,8 @@ module _ {K : Type 0} (cmp : K → K → Ordering) (o : IsTotalOrder cmp) (numbe
       rest None true h = cc
 
       by : (b : Bool) → is_eq (cmp key q) ≡ b
-          → cond b (Some (length numbers)) (lookup (is_at (cmp q)) numbers) ≡ or_place (position (is_at (cmp q)) keys) (cond (is_eq (cmp q key)) (Some (length keys)) None)
+          → cond b (Some (length numbers)) (lookup (is_at (cmp q)) numbers)
+          ≡ or_place (position (is_at (cmp q)) keys) (cond (is_eq (cmp q key)) (Some (length keys)) None)
       by true e =
           ap Some kept.counted
           ∙ sym (ap (λ r. or_place r (cond (is_eq (cmp q key)) (Some (length keys)) None))
@@ -46,18 +49,23 @@ module _ {K : Type 0} (cmp : K → K → Ordering) (o : IsTotalOrder cmp) (numbe
 
   pub numbered_push : (all : List K) → all ≡ keys ++ key ∷ [] → AreNumbered cmp more all
   numbered_push all is = record {
-    counted = let old = kept.counted in longer ∙ (let n : length numbers + 1 ≡ length (keys ++ key ∷ []) = omega (arith, length-append keys (key ∷ [])) in n) ∙ ap length (sym is);
+    counted = let old = kept.counted in
+        longer ∙ (let n : length numbers + 1 ≡ length (keys ++ key ∷ []) =
+        omega (arith, length-append keys (key ∷ [])) in n) ∙ ap length (sym is);
     numbered = λ q. numbered_after q ∙ ap (position (is_at (cmp q))) (sym is);
-    distinct = subst (IsDistinct (eq_by_cmp cmp)) (sym is) (IsDistinct-push equal keys key kept.distinct (sym (position_any (is_at (cmp key)) keys) ∙ ap is_some fresh));
+    distinct = subst (IsDistinct (eq_by_cmp cmp)) (sym is)
+        (IsDistinct-push equal keys key kept.distinct (sym (position_any (is_at (cmp key)) keys) ∙ ap is_some fresh));
   }
 
 -- a key's number is below the count
-pub number_below : {K : Type 0} (p : K → Bool) (keys : List K) (bound : ℕ) (o : Option ℕ) → o ≡ position p keys → length keys ≤ bound → IfSome o (λ n. n < bound)
+pub number_below : {K : Type 0} (p : K → Bool) (keys : List K) (bound : ℕ) (o : Option ℕ) → o ≡ position p keys
+    → length keys ≤ bound → IfSome o (λ n. n < bound)
 number_below p keys bound None is low = tt
 number_below p keys bound (Some n) is low = let lt = position_low p keys n (sym is) in omega arith
 
 -- keys that are apart by one test are so by the other
-pub distinct_by : {K : Type 0} (e f : K → K → Bool) → ((x y : K) → e x y ≡ f x y) → (keys : List K) → IsDistinct e keys → IsDistinct f keys
+pub distinct_by : {K : Type 0} (e f : K → K → Bool) → ((x y : K) → e x y ≡ f x y) → (keys : List K) → IsDistinct e keys
+    → IsDistinct f keys
 unfolding IsDistinct
 distinct_by e f same [] h = tt
 distinct_by {K = K} e f same (k ∷ ks) (first, rest) = (apart ks first, distinct_by e f same ks rest)

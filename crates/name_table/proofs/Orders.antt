@@ -26,29 +26,38 @@ order_from xs ys k = slice_cmp nat_cmp (map to_ascii_lowercase (drop k xs)) (map
 
 module _ (xs ys : List ℕ) (k : ℕ) where
   split : k < length xs → k < length ys
-      → order_from xs ys k ≡ ordering_then (nat_cmp (to_ascii_lowercase (get_or xs k 0)) (to_ascii_lowercase (get_or ys k 0))) (order_from xs ys (suc k))
+      → order_from xs ys k ≡ ordering_then
+      (nat_cmp (to_ascii_lowercase (get_or xs k 0)) (to_ascii_lowercase (get_or ys k 0))) (order_from xs ys (suc k))
   split h i =
       ap (λ zs. slice_cmp nat_cmp (low zs) (low (drop k ys))) (drop-cons xs k 0 h)
       ∙ ap (λ zs. slice_cmp nat_cmp (low (get_or xs k 0 ∷ drop (suc k) xs)) (low zs)) (drop-cons ys k 0 i)
 
-  pub order_next : (r : Ordering) → r ≡ Equal → r ≡ nat_cmp (to_ascii_lowercase (get_or xs k 0)) (to_ascii_lowercase (get_or ys k 0)) → k < length xs → k < length ys
+  pub order_next : (r : Ordering) → r ≡ Equal
+      → r ≡ nat_cmp (to_ascii_lowercase (get_or xs k 0)) (to_ascii_lowercase (get_or ys k 0)) → k < length xs
+      → k < length ys
       → order_from xs ys k ≡ order_from xs ys (suc k)
   order_next r same is h i = split h i ∙ ap (λ o. ordering_then o (order_from xs ys (suc k))) (sym is ∙ same)
 
-  pub order_here : (r : Ordering) → (r ≡ Equal → ⊥) → r ≡ nat_cmp (to_ascii_lowercase (get_or xs k 0)) (to_ascii_lowercase (get_or ys k 0)) → k < length xs → k < length ys
+  pub order_here : (r : Ordering) → (r ≡ Equal → ⊥)
+      → r ≡ nat_cmp (to_ascii_lowercase (get_or xs k 0)) (to_ascii_lowercase (get_or ys k 0)) → k < length xs
+      → k < length ys
       → r ≡ order_from xs ys k
   order_here r other is h i = by r other is ∙ sym (split h i)
     where
-      by : (r : Ordering) → (r ≡ Equal → ⊥) → r ≡ nat_cmp (to_ascii_lowercase (get_or xs k 0)) (to_ascii_lowercase (get_or ys k 0))
-          → r ≡ ordering_then (nat_cmp (to_ascii_lowercase (get_or xs k 0)) (to_ascii_lowercase (get_or ys k 0))) (order_from xs ys (suc k))
+      by : (r : Ordering) → (r ≡ Equal → ⊥)
+          → r ≡ nat_cmp (to_ascii_lowercase (get_or xs k 0)) (to_ascii_lowercase (get_or ys k 0))
+          → r ≡ ordering_then (nat_cmp (to_ascii_lowercase (get_or xs k 0)) (to_ascii_lowercase (get_or ys k 0)))
+          (order_from xs ys (suc k))
       by Less other is = ap (λ o. ordering_then o (order_from xs ys (suc k))) is
       by Equal other is = absurd (other refl)
       by Greater other is = ap (λ o. ordering_then o (order_from xs ys (suc k))) is
 
-  pub order_end : (r : Ordering) → r ≡ nat_cmp (length xs) (length ys) → k ≡ min (length xs) (length ys) → r ≡ order_from xs ys k
+  pub order_end : (r : Ordering) → r ≡ nat_cmp (length xs) (length ys) → k ≡ min (length xs) (length ys)
+      → r ≡ order_from xs ys k
   order_end r is at = by r (ranked (length xs) (length ys) r is)
     where
-      by : (r : Ordering) → MatchOrdering r (length xs < length ys) (length xs ≡ length ys) (length ys < length xs) → r ≡ order_from xs ys k
+      by : (r : Ordering) → MatchOrdering r (length xs < length ys) (length xs ≡ length ys) (length ys < length xs)
+          → r ≡ order_from xs ys k
       by Less lt =
           sym (ap (λ zs. slice_cmp nat_cmp (low zs) (low (drop k ys))) (drop_none xs k (omega arith))
           ∙ ap (λ zs. slice_cmp nat_cmp [] (low zs)) (drop-cons ys k 0 (omega arith)))
@@ -57,7 +66,8 @@ module _ (xs ys : List ℕ) (k : ℕ) where
           ∙ ap (λ zs. slice_cmp nat_cmp [] (low zs)) (drop_none ys k (omega arith)))
       by Greater gt =
           sym (ap (λ zs. slice_cmp nat_cmp (low zs) (low (drop k ys))) (drop-cons xs k 0 (omega arith))
-          ∙ ap (λ zs. slice_cmp nat_cmp (low (get_or xs k 0 ∷ drop (suc k) xs)) (low zs)) (drop_none ys k (omega arith)))
+          ∙ ap (λ zs. slice_cmp nat_cmp (low (get_or xs k 0 ∷ drop (suc k) xs)) (low zs))
+          (drop_none ys k (omega arith)))
 
 -- ---- words
 
@@ -82,6 +92,8 @@ pub any_same : {K : Type 0} (p q : K → Bool) → ((x : K) → p x ≡ q x) →
 any_same p q same [] = refl
 any_same p q same (x ∷ xs) = ap (λ b. b || list_any p xs) (same x) ∙ ap (λ b. q x || b) (any_same p q same xs)
 
-pub lookup_same : {K X : Type 0} (p q : K → Bool) → ((x : K) → p x ≡ q x) → (es : List (K × X)) → lookup p es ≡ lookup q es
+pub lookup_same : {K X : Type 0} (p q : K → Bool) → ((x : K) → p x ≡ q x) → (es : List (K × X))
+    → lookup p es ≡ lookup q es
 lookup_same p q same [] = refl
-lookup_same p q same (e ∷ es) = ap (λ b. cond b (Some e.1) (lookup p es)) (same e.0) ∙ ap (cond (q e.0) (Some e.1)) (lookup_same p q same es)
+lookup_same p q same (e ∷ es) = ap (λ b. cond b (Some e.1) (lookup p es)) (same e.0)
+    ∙ ap (cond (q e.0) (Some e.1)) (lookup_same p q same es)

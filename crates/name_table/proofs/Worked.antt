@@ -8,11 +8,36 @@ use Rattle.name_table.specs.declared.search.Found.TheVariants.{Nothing, One, Sev
 use Rattle.name_table.specs.Search.{finds_words}
 
 abbrev entry : ℕ → List ℕ → ℕ → EntryKind → Entry
-entry scope name token kind = record { scope = scope; name = name; token = token; kind = kind; bases = []; worth = None; stands_for = None; line = 1; identifier = token; prefix = [] }
+entry scope name token kind =
+    record {
+      scope = scope;
+      name = name;
+      token = token;
+      kind = kind;
+      bases = [];
+      worth = None;
+      stands_for = None;
+      line =
+          1;
+      identifier = token;
+      prefix = [];
+    }
 
 abbrev interface : ℕ → List ℕ → ℕ → List Base → Entry
 interface scope name token bases =
-    record { scope = scope; name = name; token = token; kind = Interface; bases = bases; worth = None; stands_for = None; line = 1; identifier = token; prefix = [] }
+    record {
+      scope = scope;
+      name = name;
+      token = token;
+      kind = Interface;
+      bases = bases;
+      worth = None;
+      stands_for =
+          None;
+      line = 1;
+      identifier = token;
+      prefix = [];
+    }
 
 abbrev base : ℕ → ℕ → Base
 base token entry = record { token = token; entry = entry }

@@ -6,10 +6,10 @@ ghost use Rattle.name_table.specs.Features.{bare_feature};
 ghost use Rattle.name_table.specs.OwnNames.{is_named_so};
 ghost use Rattle.name_table.specs.inner.Records.{entry_of, given_before, is_word, kind_known, worth_known};
 
+use crate::const_values::{ConstKind, Constant};
 use crate::entry::{Base, feature_token, keeps_its_name};
 use crate::key::{Key, Word};
 use crate::search::Found;
-use crate::const_values::{ConstKind, Constant};
 use idl_tree::kinds::EntryKind;
 use std::alloc::{AllocError, Global};
 use std::collections::BTreeMap;

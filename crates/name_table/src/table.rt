@@ -10,6 +10,7 @@ ghost use Rattle.idl_lexer.specs.Identifiers.{words};
 ghost use Rattle.name_table.specs.Entries.{entry_declared, latest, scope_of, with_base};
 ghost use Rattle.name_table.specs.inner.Records.{entry_of, heir_of as heir_in_records, words_at, HasWord, is_word};
 
+use crate::const_values::{ConstKind, Constant};
 use crate::entry::{Base, Meaning};
 use crate::key::{Key, Word};
 use crate::numbered::Numbered;
@@ -17,7 +18,6 @@ use crate::record::{Heir, Record, known_of};
 use crate::scope::Scope;
 use crate::search::{Found, Sight};
 use crate::shortcuts::{Place, SearchStep, Shortcut, drop_way};
-use crate::const_values::{ConstKind, Constant};
 use idl_lexer::{Identifiers, is_rooted};
 use idl_tree::kinds::EntryKind;
 use idl_tree::names::{Leaf, ScopedName, unescaped};
@@ -46,7 +46,8 @@ impl<'a> Model for Table<'a> {
 
     ghost view = { λ n. entries_in n.records.items };
 
-    ghost invariant = { λ n. AreTied n.keys n.records.items n.words.items × AreShort (entries_in n.records.items) n.shortcuts.items };
+    ghost invariant = { λ n. AreTied n.keys n.records.items n.words.items
+        × AreShort (entries_in n.records.items) n.shortcuts.items };
 }
 
 /// What the interface has whose scope it is, if it has bases.

@@ -36,7 +36,8 @@ both : (a b : Bool) → (a && b) ≡ true → (a ≡ true) × (b ≡ true)
 both true b e = (refl, e)
 both false b e = absurd cc
 
-serving : (program : List Routine) (node number : ℕ) → served_by program node ≡ Some number → IsServing program node number
+serving : (program : List Routine) (node number : ℕ) → served_by program node ≡ Some number
+    → IsServing program node number
 serving program node number e =
     let none : Routine = record { node = 0; entry = 0; exits = []; rank = 0; code = [] } in
     let found = position-Some (is_serving node) program number none e in
@@ -50,10 +51,12 @@ serving program node number e =
     }
 
 abbrev Relates : List Node → List Routine → ℕ → ℕ → Type 0
-Relates graph program node number = (format : Format) (p : ℕ) (tape octets : List ℕ) → Runs program format 64 number p tape octets ↔ Means graph format 64 node p tape octets
+Relates graph program node number = (format : Format) (p : ℕ) (tape octets : List ℕ)
+    → Runs program format 64 number p tape octets ↔ Means graph format 64 node p tape octets
 
 -- where each routine is right, the routine that serves a node is
-relates : (graph : List Node) (program : List Routine) (node number : ℕ) → AreRight graph program → served_by program node ≡ Some number → Relates graph program node number
+relates : (graph : List Node) (program : List Routine) (node number : ℕ) → AreRight graph program
+    → served_by program node ≡ Some number → Relates graph program node number
 relates graph program node number right e format p tape octets =
     let found = serving program node number e in
     let good = (right number found.routine found.there).related format 64 in
@@ -66,58 +69,89 @@ right_at : (table : TableParts) (number : Which) → IsRight table → AreRight 
 right_at table First right = right.first
 right_at table Second right = right.second
 
-pub served_relates : (table : TableParts) (node : ℕ) (program : Which) (number : ℕ) → IsRight table → Serves table node program number → Relates table.model.graph (program_at table program) node number
+pub served_relates : (table : TableParts) (node : ℕ) (program : Which) (number : ℕ) → IsRight table
+    → Serves table node program number → Relates table.model.graph (program_at table program) node number
 served_relates table node program number right serves =
     relates table.model.graph (program_at table program) node number (right_at table program right) serves.first_is
 
 -- what a fault stands for may be put more weakly
-if_err_weaker : {A : Type 0} {E : Type 0} (P Q : E → Type 0) → ((e : E) → P e → Q e) → (r : Result A E) → IfErr r P → IfErr r Q
+if_err_weaker : {A : Type 0} {E : Type 0} (P Q : E → Type 0) → ((e : E) → P e → Q e) → (r : Result A E) → IfErr r P
+    → IfErr r Q
 if_err_weaker P Q f (Ok x) h = tt
 if_err_weaker P Q f (Err e) h = f e h
 
-if_ok_weaker : {A : Type 0} {E : Type 0} (P Q : A → Type 0) → ((x : A) → P x → Q x) → (r : Result A E) → IfOk r P → IfOk r Q
+if_ok_weaker : {A : Type 0} {E : Type 0} (P Q : A → Type 0) → ((x : A) → P x → Q x) → (r : Result A E) → IfOk r P
+    → IfOk r Q
 if_ok_weaker P Q f (Ok x) h = f x h
 if_ok_weaker P Q f (Err e) h = tt
 
-module _ (table : TableParts) (right : IsRight table) (order : Order) (node : ℕ) (program : Which) (routine p : ℕ) (serves : Serves table node program routine) (routines : List Routine) (are : routines ≡ program_at table program) where
-  related : (format : Format) (tape octets : List ℕ) → Runs routines format 64 routine p tape octets ↔ Means table.model.graph format 64 node p tape octets
-  related format tape octets = rw are (served_relates table node program routine right serves format p tape octets)
+module _ (table : TableParts) (right : IsRight table) (order : Order) (node : ℕ) (program : Which) (routine p : ℕ)
+    (serves : Serves table node program routine) (routines : List Routine) (are : routines ≡ program_at table program)
+  where
+    related : (format : Format) (tape octets : List ℕ) → Runs routines format 64 routine p tape octets
+        ↔ Means table.model.graph format 64 node p tape octets
+    related format tape octets = rw are (served_relates table node program routine right serves format p tape octets)
 
-  -- what the routine writes is the value's
-  pub write_found : {A : Type 0} {E : Type 0} (octets_of : A → List ℕ) (tape : List ℕ) (r : Result A E)
-      → IfOk r (λ x. Runs routines (writing order) 64 routine p tape (octets_of x))
-      → IfOk r (λ x. Means table.model.graph (writing order) 64 node p tape (octets_of x))
-  write_found octets_of tape r h = if_ok_weaker _ _ (λ x runs. (related (writing order) tape (octets_of x)).0 runs) r h
+    -- what the routine writes is the value's
+    pub write_found : {A : Type 0} {E : Type 0} (octets_of : A → List ℕ) (tape : List ℕ) (r : Result A E)
+        → IfOk r (λ x. Runs routines (writing order) 64 routine p tape (octets_of x))
+        → IfOk r (λ x. Means table.model.graph (writing order) 64 node p tape (octets_of x))
+    write_found octets_of tape r h =
+        if_ok_weaker _ _ (λ x runs. (related (writing order) tape (octets_of x)).0 runs) r h
 
-  -- the same of what was put into a buffer
-  pub write_put : {A : Type 0} {E : Type 0} (len_of : A → ℕ) (before after tape : List ℕ) (r : Result A E)
-      → IfOk r (λ x. IsPut (λ octets. Runs routines (writing order) 64 routine p tape octets) (len_of x) before after)
-      → IfOk r (λ x. IsPut (λ octets. Means table.model.graph (writing order) 64 node p tape octets) (len_of x) before after)
-  write_put len_of before after tape r h =
-      if_ok_weaker _ _ (λ x put. record { octets = put.octets; held = (related (writing order) tape put.octets).0 put.held; long = put.long; put = put.put }) r h
+    -- the same of what was put into a buffer
+    pub write_put : {A : Type 0} {E : Type 0} (len_of : A → ℕ) (before after tape : List ℕ) (r : Result A E)
+        → IfOk r (λ x. IsPut (λ octets. Runs routines (writing order) 64 routine p tape octets) (len_of x) before after)
+        → IfOk r (λ x. IsPut (λ octets. Means table.model.graph (writing order) 64 node p tape octets) (len_of x) before
+        after)
+    write_put len_of before after tape r h =
+        if_ok_weaker _ _ (λ x put. record {
+          octets = put.octets;
+          held =
+              (related (writing order) tape put.octets).0 put.held;
+          long = put.long;
+          put = put.put;
+        }) r h
 
-  -- what no routine writes is no value
-  pub write_refused : {A : Type 0} (tape : List ℕ) (r : Result A RunFault)
-      → IfErr r (λ fault. OnFalse (wants_memory fault) ((octets : List ℕ) → Runs routines (writing order) 64 routine p tape octets → ⊥))
-      → IfErr r (λ fault. OnFalse (wants_memory fault) ((octets : List ℕ) → Means table.model.graph (writing order) 64 node p tape octets → ⊥))
-  write_refused tape r h =
-      if_err_weaker _ _ (λ fault refused. only_if_weaker (wants_memory fault) _ _ (λ none octets means. none octets ((related (writing order) tape octets).1 means)) refused) r h
+    -- what no routine writes is no value
+    pub write_refused : {A : Type 0} (tape : List ℕ) (r : Result A RunFault)
+        → IfErr r (λ fault. OnFalse (wants_memory fault)
+        ((octets : List ℕ) → Runs routines (writing order) 64 routine p tape octets → ⊥))
+        → IfErr r (λ fault. OnFalse (wants_memory fault)
+        ((octets : List ℕ) → Means table.model.graph (writing order) 64 node p tape octets → ⊥))
+    write_refused tape r h =
+        if_err_weaker _ _ (λ fault refused. only_if_weaker (wants_memory fault) _ _
+        (λ none octets means. none octets ((related (writing order) tape octets).1 means)) refused) r h
 
-  -- what the routine reads is the value's
-  pub read_found : {A : Type 0} {E : Type 0} (tape_of front_of : A → List ℕ) (r : Result A E)
-      → IfOk r (λ x. Runs routines (reading order) 64 routine p (tape_of x) (front_of x))
-      → IfOk r (λ x. Means table.model.graph (reading order) 64 node p (tape_of x) (front_of x))
-  read_found tape_of front_of r h = if_ok_weaker _ _ (λ x runs. (related (reading order) (tape_of x) (front_of x)).0 runs) r h
+    -- what the routine reads is the value's
+    pub read_found : {A : Type 0} {E : Type 0} (tape_of front_of : A → List ℕ) (r : Result A E)
+        → IfOk r (λ x. Runs routines (reading order) 64 routine p (tape_of x) (front_of x))
+        → IfOk r (λ x. Means table.model.graph (reading order) 64 node p (tape_of x) (front_of x))
+    read_found tape_of front_of r h =
+        if_ok_weaker _ _ (λ x runs. (related (reading order) (tape_of x) (front_of x)).0 runs) r h
 
-  pub read_put : {A : Type 0} {E : Type 0} (len_of : A → ℕ) (front_of : A → List ℕ) (before after : List ℕ) (r : Result A E)
-      → IfOk r (λ x. IsPut (λ tape. Runs routines (reading order) 64 routine p tape (front_of x)) (len_of x) before after)
-      → IfOk r (λ x. IsPut (λ tape. Means table.model.graph (reading order) 64 node p tape (front_of x)) (len_of x) before after)
-  read_put len_of front_of before after r h =
-      if_ok_weaker _ _ (λ x put. record { octets = put.octets; held = (related (reading order) put.octets (front_of x)).0 put.held; long = put.long; put = put.put }) r h
+    pub read_put : {A : Type 0} {E : Type 0} (len_of : A → ℕ) (front_of : A → List ℕ) (before after : List ℕ)
+        (r : Result A E)
+        → IfOk r (λ x. IsPut (λ tape. Runs routines (reading order) 64 routine p tape (front_of x)) (len_of x) before
+        after)
+        → IfOk r (λ x. IsPut (λ tape. Means table.model.graph (reading order) 64 node p tape (front_of x)) (len_of x)
+        before after)
+    read_put len_of front_of before after r h =
+        if_ok_weaker _ _ (λ x put. record {
+          octets = put.octets;
+          held =
+              (related (reading order) put.octets (front_of x)).0 put.held;
+          long = put.long;
+          put = put.put;
+        }) r h
 
-  -- what no routine reads is no value
-  pub read_refused : {A : Type 0} (octets : List ℕ) (r : Result A RunFault)
-      → IfErr r (λ fault. OnFalse (wants_memory fault) ((tape front rest : List ℕ) → octets ≡ front ++ rest → Runs routines (reading order) 64 routine p tape front → ⊥))
-      → IfErr r (λ fault. OnFalse (wants_memory fault) ((tape front rest : List ℕ) → octets ≡ front ++ rest → Means table.model.graph (reading order) 64 node p tape front → ⊥))
-  read_refused octets r h =
-      if_err_weaker _ _ (λ fault refused. only_if_weaker (wants_memory fault) _ _ (λ none tape front rest e means. none tape front rest e ((related (reading order) tape front).1 means)) refused) r h
+    -- what no routine reads is no value
+    pub read_refused : {A : Type 0} (octets : List ℕ) (r : Result A RunFault)
+        → IfErr r (λ fault. OnFalse (wants_memory fault) ((tape front rest : List ℕ) → octets ≡ front ++ rest
+        → Runs routines (reading order) 64 routine p tape front → ⊥))
+        → IfErr r (λ fault. OnFalse (wants_memory fault) ((tape front rest : List ℕ) → octets ≡ front ++ rest
+        → Means table.model.graph (reading order) 64 node p tape front → ⊥))
+    read_refused octets r h =
+        if_err_weaker _ _ (λ fault refused. only_if_weaker (wants_memory fault) _ _
+        (λ none tape front rest e means. none tape front rest e ((related (reading order) tape front).1 means))
+        refused) r h

@@ -16,63 +16,81 @@ use Rattle.position_checker.specs.Verdict.{routines_fault, named_fault, names_fa
 use Rattle.type_graph.proofs.Refusals.{only_if_weaker}
 
 -- a program without routines has no fault
-pub empty_has_none : (which : ℕ) (graph : List Node) (program : List Routine) → program ≡ [] → program_fault which graph program ≡ None
+pub empty_has_none : (which : ℕ) (graph : List Node) (program : List Routine) → program ≡ []
+    → program_fault which graph program ≡ None
 empty_has_none which graph program empty = ap (program_fault which graph) empty
 
 module _ (table : TableParts) where
   -- one more name, where those before have no fault
-  pub names_next : (place : ℕ) (name : List ℕ) (node : ℕ) (program : Which) → slice_get table.model.names place ≡ Some (name, node)
+  pub names_next : (place : ℕ) (name : List ℕ) (node : ℕ) (program : Which)
+      → slice_get table.model.names place ≡ Some (name, node)
       → slice_get table.uses place ≡ Some program → names_fault table place ≡ None
       → names_fault table (place + 1) ≡ name_fault (program_at table program) node
   names_next place name node program named used before =
       let next : place + 1 ≡ suc place = omega arith in
       ap (names_fault table) next
-      ∙ ap (λ (first : Option CheckFault). option_or first (named_fault table (slice_get table.model.names place) (slice_get table.uses place))) before
+      ∙ ap (λ (first : Option CheckFault). option_or first
+      (named_fault table (slice_get table.model.names place) (slice_get table.uses place))) before
       ∙ ap (λ (n : Option (List ℕ × ℕ)). named_fault table n (slice_get table.uses place)) named
       ∙ ap (λ (u : Option Which). named_fault table (Some (name, node)) u) used
 
   -- the first fault of names stays the first
-  names_kept : (k n : ℕ) (fault : CheckFault) → names_fault table n ≡ Some fault → names_fault table (n + k) ≡ Some fault
+  names_kept : (k n : ℕ) (fault : CheckFault) → names_fault table n ≡ Some fault
+      → names_fault table (n + k) ≡ Some fault
   names_kept zero n fault e = let none : n + 0 ≡ n = omega arith in ap (names_fault table) none ∙ e
   names_kept (suc k) n fault e =
       let next : n + suc k ≡ suc (n + k) = omega arith in
       ap (names_fault table) next
-      ∙ ap (λ (first : Option CheckFault). option_or first (named_fault table (slice_get table.model.names (n + k)) (slice_get table.uses (n + k)))) (names_kept k n fault e)
+      ∙ ap (λ (first : Option CheckFault). option_or first
+      (named_fault table (slice_get table.model.names (n + k)) (slice_get table.uses (n + k))))
+      (names_kept k n fault e)
 
   -- so the fault of a name is that of all
-  pub names_first : (place : ℕ) (name : List ℕ) (node : ℕ) (program : Which) (fault : CheckFault) → place < length table.uses
-      → slice_get table.model.names place ≡ Some (name, node) → slice_get table.uses place ≡ Some program → names_fault table place ≡ None
+  pub names_first : (place : ℕ) (name : List ℕ) (node : ℕ) (program : Which) (fault : CheckFault)
+      → place < length table.uses
+      → slice_get table.model.names place ≡ Some (name, node) → slice_get table.uses place ≡ Some program
+      → names_fault table place ≡ None
       → name_fault (program_at table program) node ≡ Some fault
       → names_fault table (length table.uses) ≡ Some fault
   names_first place name node program fault within named used before e =
       let all : length table.uses ≡ place + 1 + (length table.uses - (place + 1)) = omega (arith, within) in
-      ap (names_fault table) all ∙ names_kept (length table.uses - (place + 1)) (place + 1) fault (names_next place name node program named used before ∙ e)
+      ap (names_fault table) all ∙ names_kept (length table.uses - (place + 1)) (place + 1) fault
+      (names_next place name node program named used before ∙ e)
 
   pub first_is_first : (fault : CheckFault) → routines_fault table First ≡ Some fault → table_fault table ≡ Some fault
   unfolding table_fault
-  first_is_first fault e = ap (λ (f : Option CheckFault). option_or (option_or f (routines_fault table Second)) (names_fault table (length table.uses))) e
+  first_is_first fault e =
+      ap (λ (f : Option CheckFault). option_or (option_or f (routines_fault table Second))
+      (names_fault table (length table.uses))) e
 
-  pub second_is_next : (fault : CheckFault) → routines_fault table First ≡ None → routines_fault table Second ≡ Some fault → table_fault table ≡ Some fault
+  pub second_is_next : (fault : CheckFault) → routines_fault table First ≡ None
+      → routines_fault table Second ≡ Some fault → table_fault table ≡ Some fault
   unfolding table_fault
   second_is_next fault first e =
-      ap (λ (f : Option CheckFault). option_or (option_or f (routines_fault table Second)) (names_fault table (length table.uses))) first
+      ap (λ (f : Option CheckFault). option_or (option_or f (routines_fault table Second))
+      (names_fault table (length table.uses))) first
       ∙ ap (λ (f : Option CheckFault). option_or f (names_fault table (length table.uses))) e
 
-  pub names_are_last : (fault : Option CheckFault) → routines_fault table First ≡ None → routines_fault table Second ≡ None
+  pub names_are_last : (fault : Option CheckFault) → routines_fault table First ≡ None
+      → routines_fault table Second ≡ None
       → names_fault table (length table.uses) ≡ fault → table_fault table ≡ fault
   unfolding table_fault
   names_are_last fault first second e =
-      ap (λ (f : Option CheckFault). option_or (option_or f (routines_fault table Second)) (names_fault table (length table.uses))) first
+      ap (λ (f : Option CheckFault). option_or (option_or f (routines_fault table Second))
+      (names_fault table (length table.uses))) first
       ∙ ap (λ (f : Option CheckFault). option_or f (names_fault table (length table.uses))) second ∙ e
 
   -- with no fault in either program, the names decide
-  pub names_pass : {A : Type 0} (r : Result A CheckFault) → routines_fault table First ≡ None → routines_fault table Second ≡ None
+  pub names_pass : {A : Type 0} (r : Result A CheckFault) → routines_fault table First ≡ None
+      → routines_fault table Second ≡ None
       → OnOk r (names_fault table (length table.uses) ≡ None) → OnOk r (table_fault table ≡ None)
   names_pass r first second h = on_ok_weaker r (names_are_last None first second) h
 
-  pub names_told : {A : Type 0} (r : Result A CheckFault) → routines_fault table First ≡ None → routines_fault table Second ≡ None
+  pub names_told : {A : Type 0} (r : Result A CheckFault) → routines_fault table First ≡ None
+      → routines_fault table Second ≡ None
       → IfErr r (λ fault. OnFalse (wants_memory fault) (names_fault table (length table.uses) ≡ Some fault))
       → IfErr r (λ fault. OnFalse (wants_memory fault) (table_fault table ≡ Some fault))
   names_told r first second h =
       MatchResult-weaker r h (λ x t. t)
-      (λ fault. only_if_weaker (wants_memory fault) (names_fault table (length table.uses) ≡ Some fault) (table_fault table ≡ Some fault) (names_are_last (Some fault) first second))
+      (λ fault. only_if_weaker (wants_memory fault) (names_fault table (length table.uses) ≡ Some fault)
+      (table_fault table ≡ Some fault) (names_are_last (Some fault) first second))

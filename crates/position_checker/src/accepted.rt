@@ -175,7 +175,8 @@ impl Accepted {
     ) -> Result<usize, RunFault>
         requires { IsNamed self.now.model.names node }
         ensures found { IfOk result (λ len. IsPut
-            (λ octets. Means self.now.model.graph (writing order) 64 node pos tape.now octets) len buffer.old buffer.new) }
+            (λ octets. Means self.now.model.graph (writing order) 64 node pos tape.now octets) len buffer.old
+            buffer.new) }
         ensures refused { IfErr result (λ fault. OnFalse (run_wants_memory fault)
             ((octets : List ℕ) → Means self.now.model.graph (writing order) 64 node pos tape.now octets → ⊥)) }
         ensures kept { OnErr result (buffer.new ≡ buffer.old) }

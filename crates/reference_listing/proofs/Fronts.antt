@@ -25,13 +25,16 @@ use Rattle.reference_listing.proofs.Splits.{bodies_once}
 abbrev node_for : Bool → ℕ
 node_for later = body_node (minor_of later)
 
-bare_tape : (later : Bool) (tape : List ℕ) (all : List (ℕ × List ℕ)) → AreBehind later tape all → later ≡ false → all ≡ []
+bare_tape : (later : Bool) (tape : List ℕ) (all : List (ℕ × List ℕ)) → AreBehind later tape all → later ≡ false
+    → all ≡ []
 bare_tape false tape all are e = are
 bare_tape true tape all are e = absurd (cc)
 
 -- what is read
-pub front_found : (octets : List ℕ) (order : Order) (later : Bool) (node : ℕ) (tape lent : List ℕ) (taken : ℕ) (body : Body)
-    → node ≡ body_node (minor_of later) → lent ≡ tape → Means giop_nodes (reading order) 64 node 1 tape (take taken octets)
+pub front_found : (octets : List ℕ) (order : Order) (later : Bool) (node : ℕ) (tape lent : List ℕ) (taken : ℕ)
+    (body : Body)
+    → node ≡ body_node (minor_of later) → lent ≡ tape
+    → Means giop_nodes (reading order) 64 node 1 tape (take taken octets)
     → IsBodyTape later lent body → body.major ≡ 1 → is_later body.minor ≡ later
     → IsFront octets order later body (drop taken octets)
 front_found octets order later node tape lent taken body n e means is major minor =
@@ -39,7 +42,8 @@ front_found octets order later node tape lent taken body n e means is major mino
     let o = body_value later m.value m.fits in
     let same = bodies_once later (tape_of giop_nodes (node_at giop_nodes (node_for later)) m.value) o.body body o.tape
     (subst (λ (l : List ℕ). IsBodyTape later l body) (e ∙ m.tape_is) is) in
-    let value : m.value ≡ body_tree body (minor_of later) = o.is ∙ ap (λ (b : Body). body_tree b (minor_of later)) same in
+    let value : m.value ≡ body_tree body (minor_of later) =
+    o.is ∙ ap (λ (b : Body). body_tree b (minor_of later)) same in
     let held : Holds (reading order) (node_for later) 1 m.value (take taken octets) =
     record { fits = m.fits; encodes = m.encodes } in
     record {
@@ -60,13 +64,15 @@ nothing_held octets order later node n none body behind f =
     let means : Means giop_nodes (reading order) 64 (node_for later) 1
     (tape_of giop_nodes (node_at giop_nodes (node_for later)) (body_tree body (minor_of later))) f.front =
     record { value = body_tree body (minor_of later); fits = h.fits; tape_is = refl; encodes = h.encodes } in
-    none (tape_of giop_nodes (node_at giop_nodes (node_for later)) (body_tree body (minor_of later))) f.front behind f.octets_are
+    none (tape_of giop_nodes (node_at giop_nodes (node_for later)) (body_tree body (minor_of later))) f.front behind
+    f.octets_are
     (subst (λ (k : ℕ). Means giop_nodes (reading order) 64 k 1
     (tape_of giop_nodes (node_at giop_nodes (node_for later)) (body_tree body (minor_of later))) f.front) (sym n) means)
 
 -- what is read has a body
 pub some_body : (octets : List ℕ) (order : Order) (later : Bool) (node : ℕ) (tape lent : List ℕ) (taken : ℕ)
-    → node ≡ body_node (minor_of later) → lent ≡ tape → Means giop_nodes (reading order) 64 node 1 tape (take taken octets)
+    → node ≡ body_node (minor_of later) → lent ≡ tape
+    → Means giop_nodes (reading order) 64 node 1 tape (take taken octets)
     → ((body : Body) → IsBodyTape later lent body → ⊥) → ⊥
 some_body octets order later node tape lent taken n e means none =
     let m = subst (λ (k : ℕ). Means giop_nodes (reading order) 64 k 1 tape (take taken octets)) n means in
@@ -85,8 +91,10 @@ versions_same a b false e =
     (major, minor)
 
 -- a body that is there has the version of the one that is read
-pub same_version : (octets : List ℕ) (order : Order) (later : Bool) (node : ℕ) (tape lent : List ℕ) (taken : ℕ) (read : Body)
-    → node ≡ body_node (minor_of later) → lent ≡ tape → Means giop_nodes (reading order) 64 node 1 tape (take taken octets)
+pub same_version : (octets : List ℕ) (order : Order) (later : Bool) (node : ℕ) (tape lent : List ℕ) (taken : ℕ)
+    (read : Body)
+    → node ≡ body_node (minor_of later) → lent ≡ tape
+    → Means giop_nodes (reading order) 64 node 1 tape (take taken octets)
     → IsBodyTape later lent read → (body : Body) (behind : List ℕ) → IsFront octets order later body behind
     → (read.major ≡ 1) × (is_later read.minor ≡ later)
 same_version octets order later node tape lent taken read n e means is body behind f =
@@ -96,7 +104,8 @@ same_version octets order later node tape lent taken read n e means is body behi
     (subst (λ (l : List ℕ). IsBodyTape later l read) (e ∙ m.tape_is) is) in
     let words = graph_fits_words giop_nodes giop_is_graph in
     let values = (one_reading giop_nodes words (reading order) (node_at giop_nodes (node_for later)) m.value
-    (body_tree body (minor_of later)) 64 64 1 (take taken octets) f.front (drop taken octets) behind (words (node_for later))
+    (body_tree body (minor_of later)) 64 64 1 (take taken octets) f.front (drop taken octets) behind
+    (words (node_for later))
     m.fits f.holds.fits m.encodes f.holds.encodes (take-append-drop taken octets ∙ f.octets_are)).0 in
     let v = versions_same read body later
     (ap (λ (b : Body). body_tree b (minor_of later)) (sym same) ∙ sym o.is ∙ values) in
@@ -116,7 +125,8 @@ bools_differ false true e f = absurd (cc)
 
 -- ---- of either kind
 
-pub none_of_both : (octets : List ℕ) (order : Order) → ((body : Body) (behind : List ℕ) → IsFront octets order true body behind → ⊥)
+pub none_of_both : (octets : List ℕ) (order : Order)
+    → ((body : Body) (behind : List ℕ) → IsFront octets order true body behind → ⊥)
     → ((body : Body) (behind : List ℕ) → IsFront octets order false body behind → ⊥)
     → (body : Body) (behind : List ℕ) → IsSomeFront octets order body behind → ⊥
 none_of_both octets order a b body behind s = neither s.later s.is where
@@ -175,7 +185,8 @@ profile_found tag order octets inside body rest behind t e s same =
       major = f.major;
       bare = λ z. f.bare (sym f.minor ∙ earlier body.minor z);
       front = f.front;
-      octets_are = e ∙ ap (λ (l : List ℕ). flag_of order ∷ l) (f.octets_are ∙ ap (λ (l : List ℕ). f.front ++ l) (sym same));
+      octets_are = e ∙ ap (λ (l : List ℕ). flag_of order ∷ l)
+          (f.octets_are ∙ ap (λ (l : List ℕ). f.front ++ l) (sym same));
       holds = own order body s.later f.front f.minor f.holds;
     }
 
@@ -196,7 +207,8 @@ no_profile tag order octets inside e none iiop is =
         front = is.front;
         octets_are = more;
         holds = held order iiop.body (is_later iiop.body.minor) is.front refl
-            (subst (λ (o : Order). Holds (reading o) (body_node iiop.body.minor) 1 (body_tree iiop.body iiop.body.minor) is.front)
+            (subst (λ (o : Order). Holds (reading o) (body_node iiop.body.minor) 1 (body_tree iiop.body iiop.body.minor)
+            is.front)
             orders is.holds);
       };
     })

@@ -58,7 +58,8 @@ listed_so tag octets iiop manner is s =
     let orders = orders_same manner.order iiop.order flags in
     let words = graph_fits_words giop_nodes giop_is_graph in
     let held = subst (λ (o : Order). Holds (reading o) node 1 value so.front) orders so.holds in
-    let one = one_reading giop_nodes words (reading iiop.order) (node_at giop_nodes node) value value 64 64 1 so.front is.front
+    let one = one_reading giop_nodes words (reading iiop.order) (node_at giop_nodes node) value value 64 64 1 so.front
+    is.front
     manner.behind iiop.behind (words node) held.fits is.holds.fits held.encodes is.holds.encodes rests in
     record {
       front = so.front;

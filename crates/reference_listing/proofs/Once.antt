@@ -27,7 +27,8 @@ place_once text a b h k =
 
 -- where the place of a URL has no reference, the URL spells none
 pub no_url : (text : List ℕ) (place : Place) → is_url text ≡ true → SpellsCorbaloc text place
-    → ((reference : Reference) → IsOfPlace place reference → ⊥) → (reference : Reference) → SpellsReference text reference → ⊥
+    → ((reference : Reference) → IsOfPlace place reference → ⊥) → (reference : Reference)
+    → SpellsReference text reference → ⊥
 no_url text place url spells none reference h =
     let s = subst (λ b. SpellsBy b text reference) url h in
     none reference (subst (λ (p : Place). IsOfPlace p reference) (place_once text s.place place s.spells spells) s.is)

@@ -18,7 +18,8 @@ pub record OfBody (later : Bool) (value : Tree) : Type 0 where
   pub is : value ≡ body_tree body (minor_of later)
   pub tape : IsBodyTape later (tape_of giop_nodes (node_at giop_nodes (body_node (minor_of later))) value) body
 
-pub body_value : (later : Bool) (value : Tree) → Fits giop_nodes (node_at giop_nodes (body_node (minor_of later))) value 64
+pub body_value : (later : Bool) (value : Tree)
+    → Fits giop_nodes (node_at giop_nodes (body_node (minor_of later))) value 64
     → OfBody later value
 body_value false value fits =
     let m = struct_shape (0 ∷ 0 ∷ 9 ∷ 4 ∷ 10 ∷ []) value 64 fits in
@@ -39,9 +40,11 @@ body_value false value fits =
     let keys : tape_of giop_nodes (node_at giop_nodes 10) (octets_tree k.list) ≡ counted k.list =
     ap (tape_of giop_nodes (node_at giop_nodes 10)) (sym k.is) ∙ k.tape in
     let spelled : tape_of giop_nodes (node_at giop_nodes 24) value
-    ≡ word Big One (pos i.n) ++ (word Big One (pos j.n) ++ (counted t.text ++ (word Big Two (pos p.n) ++ (counted k.list ++ [])))) =
+    ≡ word Big One (pos i.n)
+    ++ (word Big One (pos j.n) ++ (counted t.text ++ (word Big Two (pos p.n) ++ (counted k.list ++ [])))) =
     ap (tape_of giop_nodes (node_at giop_nodes 24)) is
-    ∙ ap (λ l. word Big One (pos i.n) ++ (word Big One (pos j.n) ++ (counted t.text ++ (word Big Two (pos p.n) ++ (l ++ []))))) keys in
+    ∙ ap (λ l. word Big One (pos i.n)
+    ++ (word Big One (pos j.n) ++ (counted t.text ++ (word Big Two (pos p.n) ++ (l ++ []))))) keys in
     record {
       body = body;
       is = is;
@@ -74,7 +77,8 @@ body_value true value fits =
     let p = short_shape d.value 64 d.fits in
     let k = counted_value e.value 64 e.fits in
     let s = tag_list f.value 64 f.fits in
-    let body : Body = record { major = i.n; minor = j.n; host = t.text; port = p.n; key = k.list; components = s.all } in
+    let body : Body = record { major = i.n; minor = j.n; host = t.text; port = p.n; key = k.list; components = s.all }
+    in
     let is : value ≡ body_tree body 1 =
     m.is ∙ ap Items (a.is ∙ ap₂ AndTree i.is (b.is ∙ ap₂ AndTree j.is (c.is ∙ ap₂ AndTree t.is (d.is ∙ ap₂ AndTree p.is
     (e.is ∙ ap₂ AndTree k.is (f.is ∙ ap₂ AndTree s.is (none_left f.more 64 f.rest))))))) in
@@ -86,7 +90,8 @@ body_value true value fits =
     ≡ word Big One (pos i.n) ++ (word Big One (pos j.n) ++ (counted t.text ++ (word Big Two (pos p.n) ++ (counted k.list
     ++ (tagged_list s.all ++ []))))) =
     ap (tape_of giop_nodes (node_at giop_nodes 25)) is
-    ∙ ap₂ (λ (x y : List ℕ). word Big One (pos i.n) ++ (word Big One (pos j.n) ++ (counted t.text ++ (word Big Two (pos p.n)
+    ∙ ap₂ (λ (x y : List ℕ). word Big One (pos i.n)
+    ++ (word Big One (pos j.n) ++ (counted t.text ++ (word Big Two (pos p.n)
     ++ (x ++ (y ++ [])))))) keys lists in
     record {
       body = body;

@@ -26,7 +26,8 @@ short_front m n r s hm hn e =
 
 -- ---- addresses
 
-pub no_port : (tape host behind : List ℕ) (h : List ℕ) (n : ℕ) (key rest : List ℕ) → IsAddress tape h n key rest → IsCounted host
+pub no_port : (tape host behind : List ℕ) (h : List ℕ) (n : ℕ) (key rest : List ℕ) → IsAddress tape h n key rest
+    → IsCounted host
     → tape ≡ counted host ++ behind → ((n : ℕ) (more : List ℕ) → behind ≡ word Big Two (pos n) ++ more → ⊥) → ⊥
 no_port tape host behind h n key rest a short e none =
     let same = counted_front h host (word Big Two (pos n) ++ (counted key ++ rest)) behind a.host_short short
@@ -60,12 +61,14 @@ addresses_same tape host port key rest h p k r x y =
 
 -- ---- components
 
-components_same : (later : Bool) (tape : List ℕ) (xs ys : List (ℕ × List ℕ)) → AreBehind later tape xs → AreBehind later tape ys
+components_same : (later : Bool) (tape : List ℕ) (xs ys : List (ℕ × List ℕ)) → AreBehind later tape xs
+    → AreBehind later tape ys
     → xs ≡ ys
 components_same false tape xs ys x y = x ∙ sym y
 components_same true tape xs ys x y = (tagged_list_front xs ys x.1.0 y.1.0 x.0 y.0 (sym x.1.1 ∙ y.1.1)).0
 
-pub none_behind : (later : Bool) (tape : List ℕ) (all : List (ℕ × List ℕ)) → later ≡ false → all ≡ [] → AreBehind later tape all
+pub none_behind : (later : Bool) (tape : List ℕ) (all : List (ℕ × List ℕ)) → later ≡ false → all ≡ []
+    → AreBehind later tape all
 none_behind false tape all e f = f
 none_behind true tape all e f = absurd (cc)
 
@@ -87,15 +90,18 @@ abbrev make : ℕ → ℕ → List ℕ → ℕ → List ℕ → List (ℕ × Lis
 make major minor host port key components =
     record { major = major; minor = minor; host = host; port = port; key = key; components = components }
 
-same_parts : (a b : ℕ) (h : List ℕ) (p : ℕ) (k : List ℕ) (c : List (ℕ × List ℕ)) (a2 b2 : ℕ) (h2 : List ℕ) (p2 : ℕ) (k2 : List ℕ)
+same_parts : (a b : ℕ) (h : List ℕ) (p : ℕ) (k : List ℕ) (c : List (ℕ × List ℕ)) (a2 b2 : ℕ) (h2 : List ℕ) (p2 : ℕ)
+    (k2 : List ℕ)
     (c2 : List (ℕ × List ℕ)) → a ≡ a2 → b ≡ b2 → h ≡ h2 → p ≡ p2 → k ≡ k2 → c ≡ c2
     → make a b h p k c ≡ make a2 b2 h2 p2 k2 c2
 same_parts a b h p k c a2 b2 h2 p2 k2 c2 e f g i j l = cc
 
-pub bodies_same : (a b : Body) → a.major ≡ b.major → a.minor ≡ b.minor → a.host ≡ b.host → a.port ≡ b.port → a.key ≡ b.key
+pub bodies_same : (a b : Body) → a.major ≡ b.major → a.minor ≡ b.minor → a.host ≡ b.host → a.port ≡ b.port
+    → a.key ≡ b.key
     → a.components ≡ b.components → a ≡ b
 bodies_same a b e f g i j l =
-    same_parts a.major a.minor a.host a.port a.key a.components b.major b.minor b.host b.port b.key b.components e f g i j l
+    same_parts a.major a.minor a.host a.port a.key a.components b.major b.minor b.host b.port b.key b.components e f g i
+    j l
 
 -- behind the version
 pub record Behind (m n a b : ℕ) (address behind : List ℕ) : Type 0 where
@@ -103,7 +109,8 @@ pub record Behind (m n a b : ℕ) (address behind : List ℕ) : Type 0 where
   pub minor : b ≡ n
   pub there : address ≡ behind
 
-pub behind_version : (later : Bool) (tape : List ℕ) (body : Body) (m n : ℕ) (behind : List ℕ) → (is : IsBodyTape later tape body)
+pub behind_version : (later : Bool) (tape : List ℕ) (body : Body) (m n : ℕ) (behind : List ℕ)
+    → (is : IsBodyTape later tape body)
     → m < 2 ^ 8 → n < 2 ^ 8 → tape ≡ word Big One (pos m) ++ (word Big One (pos n) ++ behind)
     → Behind m n body.major body.minor is.address behind
 behind_version later tape body m n behind is hm hn e =
@@ -112,7 +119,8 @@ behind_version later tape body m n behind is hm hn e =
     let second = octet_front body.minor n is.address behind is.minor_small hn first.1 in
     record { major = first.0; minor = second.0; there = second.1 }
 
-pub bodies_once : (later : Bool) (tape : List ℕ) (a b : Body) → IsBodyTape later tape a → IsBodyTape later tape b → a ≡ b
+pub bodies_once : (later : Bool) (tape : List ℕ) (a b : Body) → IsBodyTape later tape a → IsBodyTape later tape b
+    → a ≡ b
 bodies_once later tape a b x y =
     let v = behind_version later tape a b.major b.minor y.address x y.major_small y.minor_small y.tape_is in
     let moved = subst (λ (l : List ℕ). IsAddress l a.host a.port a.key x.rest) v.there x.address_is in

@@ -33,7 +33,8 @@ joined_clean A B C D a b p x r =
         second = subst (λ (n : ℕ). D (p + n) s.octets) (sym f.long) s.is;
       };
       long = length-append f.octets s.octets ∙ ap (λ (n : ℕ). n + length s.octets) f.long
-          ∙ ap (λ (n : ℕ). length r.octets1 + n) s.long ∙ sym (length-append r.octets1 r.octets2) ∙ ap length (sym r.octets_is);
+          ∙ ap (λ (n : ℕ). length r.octets1 + n) s.long ∙ sym (length-append r.octets1 r.octets2)
+          ∙ ap length (sym r.octets_is);
     }
 
 just_clean : (octets : List ℕ) → Cleans (Just octets) (Just octets)
@@ -86,7 +87,8 @@ mutual
       → Cleans (EncodeAll (reading order) graph numbers values) (EncodeAll (writing order) graph numbers values)
   encode_all_clean order graph [] NoTree p x r = just_clean [] p x r
   encode_all_clean order graph (number ∷ numbers) (AndTree value values) p x r =
-      joined_clean (Encodes (reading order) graph (node_at graph number) value) (EncodeAll (reading order) graph numbers values)
+      joined_clean (Encodes (reading order) graph (node_at graph number) value)
+      (EncodeAll (reading order) graph numbers values)
       (Encodes (writing order) graph (node_at graph number) value) (EncodeAll (writing order) graph numbers values)
       (λ q y s. encodes_clean order graph (node_at graph number) value q y s)
       (λ q y s. encode_all_clean order graph numbers values q y s) p x r

@@ -49,8 +49,10 @@ none_read octets behind order node e none value h =
     let same : flag_of order ∷ behind ≡ flag_of h.order ∷ (h.body ++ h.rest) = sym e ∙ h.octets_are in
     let flags : flag_of order ≡ flag_of h.order = cc in
     let front : behind ≡ h.body ++ h.rest = cc in
-    let held = subst (λ (o : Order). Holds (reading o) node 1 value h.body) (sym (orders_same order h.order flags)) h.holds in
-    none (tape_of giop_nodes (node_at giop_nodes node) value) h.body h.rest front (held_means order node value h.body held)
+    let held = subst (λ (o : Order). Holds (reading o) node 1 value h.body) (sym (orders_same order h.order flags))
+    h.holds in
+    none (tape_of giop_nodes (node_at giop_nodes node) value) h.body h.rest front
+    (held_means order node value h.body held)
 
 pub none_written : (node : ℕ) (tape : List ℕ)
     → ((octets : List ℕ) → Means giop_nodes (writing Big) 64 node 1 tape octets → ⊥)
@@ -65,19 +67,23 @@ none_written node tape none octets w =
     })
 
 -- what is written can be read
-pub held_read : (order : Order) (node p : ℕ) (value : Tree) (octets : List ℕ) → Holds (writing order) node p value octets
+pub held_read : (order : Order) (node p : ℕ) (value : Tree) (octets : List ℕ)
+    → Holds (writing order) node p value octets
     → Holds (reading order) node p value octets
 held_read order node p value octets h =
     let words = graph_fits_words giop_nodes giop_is_graph in
     let m = written_is_read giop_nodes order 64 node p (tape_of giop_nodes (node_at giop_nodes node) value) octets
     (record { value = value; fits = h.fits; tape_is = refl; encodes = h.encodes }) in
-    let same = one_tape giop_nodes words (node_at giop_nodes node) value m.value 64 (words node) h.fits m.fits m.tape_is in
+    let same = one_tape giop_nodes words (node_at giop_nodes node) value m.value 64 (words node) h.fits m.fits m.tape_is
+    in
     record {
       fits = h.fits;
-      encodes = subst (λ (v : Tree). Encodes (reading order) giop_nodes (node_at giop_nodes node) v p octets) (sym same) m.encodes;
+      encodes = subst (λ (v : Tree). Encodes (reading order) giop_nodes (node_at giop_nodes node) v p octets) (sym same)
+          m.encodes;
     }
 
-pub written_read : (node : ℕ) (value : Tree) (octets : List ℕ) → IsWritten node value octets → Encapsulates node value octets
+pub written_read : (node : ℕ) (value : Tree) (octets : List ℕ) → IsWritten node value octets
+    → Encapsulates node value octets
 written_read node value octets w = record {
   order = Big;
   body = w.body;
@@ -90,16 +96,20 @@ written_read node value octets w = record {
 pub written_once : (node : ℕ) (value : Tree) (a b : List ℕ) → IsWritten node value a → IsWritten node value b → a ≡ b
 written_once node value a b v w =
     v.octets_are
-    ∙ ap (λ l. flag_of Big ∷ l) (encodes_once Big giop_nodes (node_at giop_nodes node) value 1 v.body w.body v.holds.encodes w.holds.encodes)
+    ∙ ap (λ l. flag_of Big ∷ l)
+    (encodes_once Big giop_nodes (node_at giop_nodes node) value 1 v.body w.body v.holds.encodes w.holds.encodes)
     ∙ sym w.octets_are
 
 -- octets begin with one value of a node
-pub encapsulated_once : (node : ℕ) (a b : Tree) (octets : List ℕ) → Encapsulates node a octets → Encapsulates node b octets → a ≡ b
+pub encapsulated_once : (node : ℕ) (a b : Tree) (octets : List ℕ) → Encapsulates node a octets
+    → Encapsulates node b octets → a ≡ b
 encapsulated_once node a b octets h k =
-    let same : flag_of h.order ∷ (h.body ++ h.rest) ≡ flag_of k.order ∷ (k.body ++ k.rest) = sym h.octets_are ∙ k.octets_are in
+    let same : flag_of h.order ∷ (h.body ++ h.rest) ≡ flag_of k.order ∷ (k.body ++ k.rest) =
+    sym h.octets_are ∙ k.octets_are in
     let flags : flag_of h.order ≡ flag_of k.order = cc in
     let front : h.body ++ h.rest ≡ k.body ++ k.rest = cc in
-    let moved = subst (λ (o : Order). Holds (reading o) node 1 b k.body) (sym (orders_same h.order k.order flags)) k.holds in
+    let moved = subst (λ (o : Order). Holds (reading o) node 1 b k.body) (sym (orders_same h.order k.order flags))
+    k.holds in
     let words = graph_fits_words giop_nodes giop_is_graph in
     (one_reading giop_nodes words (reading h.order) (node_at giop_nodes node) a b 64 64 1 h.body k.body h.rest k.rest
     (words node) h.holds.fits moved.fits h.holds.encodes moved.encodes front).0
@@ -107,5 +117,8 @@ encapsulated_once node a b octets h k =
 -- they are octets
 pub written_octets : (node : ℕ) (value : Tree) (octets : List ℕ) → IsWritten node value octets → AllBelow 256 octets
 written_octets node value octets w =
-    subst (AllBelow 256) (sym w.octets_are)
-    (omega arith, encodes_octets (writing Big) giop_nodes (node_at giop_nodes node) value 64 w.holds.fits 1 w.body w.holds.encodes)
+    subst (AllBelow 256) (sym w.octets_are) (
+      omega arith,
+      encodes_octets (writing Big) giop_nodes (node_at giop_nodes node) value 64 w.holds.fits 1 w.body
+          w.holds.encodes,
+    )

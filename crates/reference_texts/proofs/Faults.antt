@@ -18,7 +18,8 @@ err_weaker (Ok x) P Q f h = tt
 err_weaker (Err fault) P Q f h = only_if_weaker (wants_memory fault) P Q f h
 
 -- a run
-by_run : (run : RunFault) (P Q : Type 0) → (P → Q) → OnFalse (run_wants_memory run) P → OnFalse (wants_memory (of_run run)) Q
+by_run : (run : RunFault) (P Q : Type 0) → (P → Q) → OnFalse (run_wants_memory run) P
+    → OnFalse (wants_memory (of_run run)) Q
 by_run runs.NoMemory P Q f h = tt
 by_run runs.Short P Q f h = f h
 by_run runs.BadBool P Q f h = f h
@@ -32,24 +33,29 @@ by_run runs.TapeLeft P Q f h = f h
 
 pub run_refused : (run : RunFault) (fault : ReferenceFault) (P Q : Type 0) → fault ≡ of_run run → (P → Q)
     → OnFalse (run_wants_memory run) P → OnFalse (wants_memory fault) Q
-run_refused run fault P Q e f h = subst (λ (x : ReferenceFault). OnFalse (wants_memory x) Q) (sym e) (by_run run P Q f h)
+run_refused run fault P Q e f h =
+    subst (λ (x : ReferenceFault). OnFalse (wants_memory x) Q) (sym e) (by_run run P Q f h)
 
 -- a tape that isn't written
-by_writing : (tape : TapeFault) (P Q : Type 0) → (P → Q) → RefusesWriting tape P → OnFalse (wants_memory (of_tape tape)) Q
+by_writing : (tape : TapeFault) (P Q : Type 0) → (P → Q) → RefusesWriting tape P
+    → OnFalse (wants_memory (of_tape tape)) Q
 by_writing tapes.NoMemory P Q f h = tt
 by_writing tapes.TooLong P Q f h = f h
 by_writing tapes.NotATape P Q f h = absurd h
 
 pub writing_refused : (tape : TapeFault) (fault : ReferenceFault) (P Q : Type 0) → fault ≡ of_tape tape → (P → Q)
     → RefusesWriting tape P → OnFalse (wants_memory fault) Q
-writing_refused tape fault P Q e f h = subst (λ (x : ReferenceFault). OnFalse (wants_memory x) Q) (sym e) (by_writing tape P Q f h)
+writing_refused tape fault P Q e f h =
+    subst (λ (x : ReferenceFault). OnFalse (wants_memory x) Q) (sym e) (by_writing tape P Q f h)
 
 -- a tape that isn't read
-by_reading : (tape : TapeFault) (P Q : Type 0) → (P → Q) → RefusesReading tape P → OnFalse (wants_memory (of_tape tape)) Q
+by_reading : (tape : TapeFault) (P Q : Type 0) → (P → Q) → RefusesReading tape P
+    → OnFalse (wants_memory (of_tape tape)) Q
 by_reading tapes.NoMemory P Q f h = tt
 by_reading tapes.NotATape P Q f h = f h
 by_reading tapes.TooLong P Q f h = absurd h
 
 pub reading_refused : (tape : TapeFault) (fault : ReferenceFault) (P Q : Type 0) → fault ≡ of_tape tape → (P → Q)
     → RefusesReading tape P → OnFalse (wants_memory fault) Q
-reading_refused tape fault P Q e f h = subst (λ (x : ReferenceFault). OnFalse (wants_memory x) Q) (sym e) (by_reading tape P Q f h)
+reading_refused tape fault P Q e f h =
+    subst (λ (x : ReferenceFault). OnFalse (wants_memory x) Q) (sym e) (by_reading tape P Q f h)

@@ -33,7 +33,8 @@ none_left at n xs ys past = elim past [
 -- ---- what is read and written
 
 -- what is read has a writing
-pub written_there : (order : Order) (node : ℕ) (tape front : List ℕ) → Means giop_nodes (reading order) 64 node 1 tape front
+pub written_there : (order : Order) (node : ℕ) (tape front : List ℕ)
+    → Means giop_nodes (reading order) 64 node 1 tape front
     → ((octets : List ℕ) → Means giop_nodes (writing order) 64 node 1 tape octets → ⊥) → ⊥
 written_there order node tape front m none =
     let clean = encodes_clean order giop_nodes (node_at giop_nodes node) m.value 1 front m.encodes in

@@ -14,7 +14,8 @@ use Rattle.giop_types.proofs.PartLaws.{counted_front, tagged_each-append}
 use Rattle.reference_texts.specs.References.{Reference, IsFront, owned_pairs}
 
 -- one more of a list
-taken_next : {A : Type 0} (xs : List A) (i : ℕ) (one : A) → i < length xs → one ≡ get_or xs i one → take (i + 1) xs ≡ take i xs ++ one ∷ []
+taken_next : {A : Type 0} (xs : List A) (i : ℕ) (one : A) → i < length xs → one ≡ get_or xs i one
+    → take (i + 1) xs ≡ take i xs ++ one ∷ []
 taken_next {A} xs i one within is = take_more xs i one within ∙ ap (λ (y : A). take i xs ++ y ∷ []) (sym is)
 
 -- ---- a tape of owned ones
@@ -22,7 +23,8 @@ taken_next {A} xs i one within is = take_more xs i one within ∙ ap (λ (y : A)
 pub owned_next : (xs : List (ℕ × Vec ℕ Global)) (i : ℕ) (one : ℕ × Vec ℕ Global) → i < length xs → one ≡ get_or xs i one
     → owned_pairs (take (i + 1) xs) ≡ owned_pairs (take i xs) ++ (one.0, one.1.items) ∷ []
 owned_next xs i one within is =
-    ap owned_pairs (taken_next xs i one within is) ∙ map-append (λ (o : ℕ × Vec ℕ Global). (o.0, o.1.items)) (take i xs) (one ∷ [])
+    ap owned_pairs (taken_next xs i one within is)
+    ∙ map-append (λ (o : ℕ × Vec ℕ Global). (o.0, o.1.items)) (take i xs) (one ∷ [])
 
 pub tape_more : (old now new : List ℕ) (xs : List (ℕ × Vec ℕ Global)) (i : ℕ) (one : ℕ × Vec ℕ Global)
     → i < length xs → one ≡ get_or xs i one → now ≡ old ++ tagged_each (owned_pairs (take i xs))
@@ -34,7 +36,8 @@ tape_more old now new xs i one within is before added =
     ∙ ap (λ l. old ++ l) (sym (tagged_each-append (owned_pairs (take i xs)) (pair ∷ [])))
     ∙ ap (λ l. old ++ tagged_each l) (sym (owned_next xs i one within is))
 
-pub each_more : (holds : ℕ × List ℕ → Type 0) (xs : List (ℕ × Vec ℕ Global)) (i : ℕ) (one : ℕ × Vec ℕ Global) → i < length xs → one ≡ get_or xs i one
+pub each_more : (holds : ℕ × List ℕ → Type 0) (xs : List (ℕ × Vec ℕ Global)) (i : ℕ) (one : ℕ × Vec ℕ Global)
+    → i < length xs → one ≡ get_or xs i one
     → AllByRecursion holds (owned_pairs (take i xs)) → holds (one.0, one.1.items)
     → AllByRecursion holds (owned_pairs (take (i + 1) xs))
 each_more holds xs i one within is before fits =

@@ -21,17 +21,20 @@ no_octets [] h = refl
 no_octets (x ∷ xs) h = absurd (omega (arith, h))
 
 -- an octet has no gap
-octet_is : (format : Format) (n p : ℕ) (octets : List ℕ) → n < 256 → Aligned format One (pos n) p octets → octets ≡ n ∷ []
+octet_is : (format : Format) (n p : ℕ) (octets : List ℕ) → n < 256 → Aligned format One (pos n) p octets
+    → octets ≡ n ∷ []
 octet_is format n p octets small a =
     let gap : length a.octets1 < 1 = omega (arith, a.first.long, pad_short p One) in
-    a.octets_is ∙ ap₂ (λ (l k : List ℕ). l ++ k) (no_octets a.octets1 gap) (a.second ∙ plain_word_one format.order n small)
+    a.octets_is ∙ ap₂ (λ (l k : List ℕ). l ++ k) (no_octets a.octets1 gap)
+    (a.second ∙ plain_word_one format.order n small)
 
 -- a body begins with its version
 record Versioned (octets : List ℕ) (major minor : ℕ) : Type 0 where
   more : List ℕ
   octets_are : octets ≡ major ∷ minor ∷ more
 
-versioned : (format : Format) (n : ℕ) (body : Body) (octets : List ℕ) → Holds format (body_node n) 1 (body_tree body n) octets
+versioned : (format : Format) (n : ℕ) (body : Body) (octets : List ℕ)
+    → Holds format (body_node n) 1 (body_tree body n) octets
     → Versioned octets body.major body.minor
 versioned format zero body octets h =
     let behind = h.encodes.second in
@@ -70,7 +73,8 @@ bodies_once : (order : Order) (a b : Body) (n m : ℕ) (x y r s : List ℕ) → 
 bodies_once order a b n m x y r s same h k e =
     let moved = subst (λ (i : ℕ). Holds (reading order) (body_node i) 1 (body_tree b i) y) (sym same) k in
     let words = graph_fits_words giop_nodes giop_is_graph in
-    let one = one_reading giop_nodes words (reading order) (node_at giop_nodes (body_node n)) (body_tree a n) (body_tree b n)
+    let one = one_reading giop_nodes words (reading order) (node_at giop_nodes (body_node n)) (body_tree a n)
+    (body_tree b n)
     64 64 1 x y r s (words (body_node n)) h.fits moved.fits h.encodes moved.encodes e in
     keys_same n a b one.0
 

@@ -47,16 +47,19 @@ record Same (major minor : ℕ) (host : List ℕ) (port : ℕ) (key rest : List 
   keys : key ≡ k
   rests : rest ≡ r
 
-bodies_same : (major minor : ℕ) (host : List ℕ) (port : ℕ) (key rest : List ℕ) (m n : ℕ) (h : List ℕ) (p : ℕ) (k r : List ℕ)
+bodies_same : (major minor : ℕ) (host : List ℕ) (port : ℕ) (key rest : List ℕ) (m n : ℕ) (h : List ℕ) (p : ℕ)
+    (k r : List ℕ)
     → major < 256 → minor < 256 → IsCounted host → port < 2 ^ 16 → IsCounted key
     → m < 256 → n < 256 → IsCounted h → p < 2 ^ 16 → IsCounted k
     → spelled major minor host port key rest ≡ spelled m n h p k r → Same major minor host port key rest m n h p k r
 bodies_same major minor host port key rest m n h p k r a b c d e a2 b2 c2 d2 e2 same =
-    let one = word_front One major m (word Big One (pos minor) ++ (counted host ++ (word Big Two (pos port) ++ (counted key ++ rest))))
+    let one = word_front One major m
+    (word Big One (pos minor) ++ (counted host ++ (word Big Two (pos port) ++ (counted key ++ rest))))
     (word Big One (pos n) ++ (counted h ++ (word Big Two (pos p) ++ (counted k ++ r)))) a a2 same in
     let two = word_front One minor n (counted host ++ (word Big Two (pos port) ++ (counted key ++ rest)))
     (counted h ++ (word Big Two (pos p) ++ (counted k ++ r))) b b2 one.1 in
-    let three = counted_front host h (word Big Two (pos port) ++ (counted key ++ rest)) (word Big Two (pos p) ++ (counted k ++ r)) c c2 two.1 in
+    let three = counted_front host h (word Big Two (pos port) ++ (counted key ++ rest))
+    (word Big Two (pos p) ++ (counted k ++ r)) c c2 two.1 in
     let four = word_front Two port p (counted key ++ rest) (counted k ++ r) d d2 three.1 in
     let five = counted_front key k rest r e e2 four.1 in
     record { majors = one.0; minors = two.0; hosts = three.0; ports = four.0; keys = five.0; rests = five.1 }
@@ -79,7 +82,8 @@ record OfBody (value : Tree) : Type 0 where
   port_small : port < 2 ^ 16
   key_counted : IsCounted key
   tagged : AreTagged components
-  tape : tape_of giop_nodes (node_at giop_nodes 25) value ≡ spelled major minor host port key (tagged_list components ++ [])
+  tape : tape_of giop_nodes (node_at giop_nodes 25) value
+      ≡ spelled major minor host port key (tagged_list components ++ [])
 
 body_value : (value : Tree) → Fits giop_nodes (node_at giop_nodes 25) value 64 → OfBody value
 body_value value fits =
@@ -123,7 +127,8 @@ body_value value fits =
           keys lists;
     }
 
-trees_same : (a b : ℕ) (h : List ℕ) (p : ℕ) (k : List ℕ) (c : List (ℕ × List ℕ)) (a2 b2 : ℕ) (h2 : List ℕ) (p2 : ℕ) (k2 : List ℕ)
+trees_same : (a b : ℕ) (h : List ℕ) (p : ℕ) (k : List ℕ) (c : List (ℕ × List ℕ)) (a2 b2 : ℕ) (h2 : List ℕ) (p2 : ℕ)
+    (k2 : List ℕ)
     (c2 : List (ℕ × List ℕ)) → a ≡ a2 → b ≡ b2 → h ≡ h2 → p ≡ p2 → k ≡ k2 → c ≡ c2
     → whole_tree a b h p k c ≡ whole_tree a2 b2 h2 p2 k2 c2
 trees_same a b h p k c a2 b2 h2 p2 k2 c2 e f g i j l = cc
@@ -134,11 +139,13 @@ new_value : (host : List ℕ) (port : ℕ) (key : List ℕ) (value : Tree) → I
     → value ≡ new_tree host port key
 new_value host port key value h p k o tape =
     let s = bodies_same o.major o.minor o.host o.port o.key (tagged_list o.components ++ []) 1 2 host port key
-    (word Big Four (pos 0)) o.major_small o.minor_small o.host_counted o.port_small o.key_counted (omega arith) (omega arith)
+    (word Big Four (pos 0)) o.major_small o.minor_small o.host_counted o.port_small o.key_counted (omega arith)
+    (omega arith)
     h p k (sym o.tape ∙ tape) in
     let none = tagged_list_front o.components [] [] [] o.tagged none_tagged s.rests in
     o.is
-    ∙ trees_same o.major o.minor o.host o.port o.key o.components 1 2 host port key [] s.majors s.minors s.hosts s.ports s.keys none.0
+    ∙ trees_same o.major o.minor o.host o.port o.key o.components 1 2 host port key [] s.majors s.minors s.hosts s.ports
+    s.keys none.0
 
 -- what a body that fits says of its parts
 pub fitting_host : (host : List ℕ) (port : ℕ) (key : List ℕ)
@@ -153,7 +160,8 @@ tape_spelled : (host : List ℕ) (port : ℕ) (key : List ℕ)
     → Fits giop_nodes (node_at giop_nodes 25) (new_tree host port key) 64
     → tape_of giop_nodes (node_at giop_nodes 25) (new_tree host port key) ≡ profile_tape host port key
 tape_spelled host port key f =
-    ap (λ k. word Big One (pos 1) ++ (word Big One (pos 2) ++ (counted host ++ (word Big Two (pos port) ++ (k ++ word Big Four (pos 0))))))
+    ap (λ k. word Big One (pos 1)
+    ++ (word Big One (pos 2) ++ (counted host ++ (word Big Two (pos port) ++ (k ++ word Big Four (pos 0))))))
     (octets_tape key (octets_below key 64 f.1.1.1.1.0))
 
 pub profile_written : (host : List ℕ) (port : ℕ) (key tape octets : List ℕ) → IsCounted host → port < 2 ^ 16

@@ -34,7 +34,8 @@ reference_value value f =
       is = is;
       fits = record { type_id = text_counted t.text t.fits; profiles = l.are };
       tape = ap (tape_of giop_nodes (node_at giop_nodes 13)) is
-          ∙ ap (λ k. counted t.text ++ k) (append-nil (tape_of giop_nodes (node_at giop_nodes 12) (tagged_list_tree l.all)) ∙ profiles);
+          ∙ ap (λ k. counted t.text ++ k)
+          (append-nil (tape_of giop_nodes (node_at giop_nodes 12) (tagged_list_tree l.all)) ∙ profiles);
     }
 
 -- what a reference that fits says of it

@@ -24,7 +24,8 @@ digits_same text a b h k =
 word_same : (text word behind digits : List ℕ) → text ≡ word ++ behind → length word ≡ 4 → HasDigits text digits
     → map to_ascii_lowercase word ≡ codes "ior:"
 word_same text word behind digits e long h =
-    ap (map to_ascii_lowercase) (cut_same word h.prefix behind digits (long ∙ sym (word_long text digits h)) (sym e ∙ h.text_is)).0
+    ap (map to_ascii_lowercase)
+    (cut_same word h.prefix behind digits (long ∙ sym (word_long text digits h)) (sym e ∙ h.text_is)).0
     ∙ h.prefix_is
 
 -- what isn't behind the word isn't digits
@@ -32,7 +33,8 @@ pub no_digits : (text word behind : List ℕ) (other : List ℕ) → word ≡ ta
     → length word ≡ 4 → other ≡ codes "IOR:"
     → (map to_ascii_lowercase word ≡ map to_ascii_lowercase other → ⊥) → (digits : List ℕ) → HasDigits text digits → ⊥
 no_digits text word behind other e f long is differ digits h =
-    let whole : text ≡ word ++ behind = sym (take-append-drop 4 text) ∙ ap₂ (λ (a b : List ℕ). a ++ b) (sym e) (sym f) in
+    let whole : text ≡ word ++ behind = sym (take-append-drop 4 text)
+    ∙ ap₂ (λ (a b : List ℕ). a ++ b) (sym e) (sym f) in
     differ (word_same text word behind digits whole long h ∙ ap (map to_ascii_lowercase) (sym is))
 
 pub spelled_digits : (text lent digits octets : List ℕ) → lent ≡ text → HasDigits lent digits
@@ -79,4 +81,5 @@ text_read reference text is =
 
 pub text_once : (reference : Reference) (a b : List ℕ) → IsTextOf reference a → IsTextOf reference b → a ≡ b
 text_once reference a b h k =
-    h.text_is ∙ ap spelled (written_once 13 (reference_tree reference) h.octets k.octets h.written k.written) ∙ sym k.text_is
+    h.text_is ∙ ap spelled (written_once 13 (reference_tree reference) h.octets k.octets h.written k.written)
+    ∙ sym k.text_is

@@ -17,7 +17,8 @@ AreOctets A = (p : ℕ) (x : List ℕ) → A p x → AllBelow 256 x
 joined_octets : (A B : Encoding) → AreOctets A → AreOctets B → AreOctets (Joined A B)
 joined_octets A B a b p x r =
     subst (AllBelow 256) (sym r.octets_is)
-    (all_append (λ n. n < 256) r.octets1 r.octets2 (a p r.octets1 r.first) (b (p + length r.octets1) r.octets2 r.second))
+    (all_append (λ n. n < 256) r.octets1 r.octets2 (a p r.octets1 r.first)
+    (b (p + length r.octets1) r.octets2 r.second))
 
 aligned_octets : (format : Format) (w : Width) (n : ℤ) → AreOctets (Aligned format w n)
 aligned_octets format w n p x r =
@@ -25,13 +26,16 @@ aligned_octets format w n p x r =
     (all_append (λ k. k < 256) r.octets1 r.octets2 (padding_octets format.padding r.octets1 r.first.filled)
     (subst (AllBelow 256) (sym r.second) (word_below format.order w n)))
 
-text_octets : (text : List ℕ) → AllByRecursion (λ octet. (0 < octet) × (octet < 256)) text → AllBelow 256 (text ++ 0 ∷ [])
+text_octets : (text : List ℕ) → AllByRecursion (λ octet. (0 < octet) × (octet < 256)) text
+    → AllBelow 256 (text ++ 0 ∷ [])
 text_octets text all =
-    all_append (λ n. n < 256) text (0 ∷ []) (all_weaken (λ octet. (0 < octet) × (octet < 256)) (λ n. n < 256) text (λ n h. h.1) all)
+    all_append (λ n. n < 256) text (0 ∷ [])
+    (all_weaken (λ octet. (0 < octet) × (octet < 256)) (λ n. n < 256) text (λ n h. h.1) all)
     (omega arith, tt)
 
 mutual
-  pub encodes_octets : (format : Format) (graph : List Node) (node : Node) (value : Tree) (d : ℕ) → Fits graph node value d
+  pub encodes_octets : (format : Format) (graph : List Node) (node : Node) (value : Tree) (d : ℕ)
+      → Fits graph node value d
       → AreOctets (Encodes format graph node value)
   encodes_octets format graph node (Number n) d f p x r = aligned_octets format (number_width node) n p x r
   encodes_octets format graph (Text bound) (Bytes text) d f p x r =
@@ -39,7 +43,8 @@ mutual
       (aligned_octets format Four (pos (suc (length text))))
       (λ q y e. subst (AllBelow 256) (sym e) (text_octets text f.octets)) p x r
   encodes_octets format graph (Seq elem bound) (Items values) d f p x r =
-      joined_octets (Aligned format Four (pos (count values))) (EncodeAll format graph (replicate (count values) elem) values)
+      joined_octets (Aligned format Four (pos (count values)))
+      (EncodeAll format graph (replicate (count values) elem) values)
       (aligned_octets format Four (pos (count values)))
       (λ q y s. encode_all_octets format graph (replicate (count values) elem) values _ f.2 q y s) p x r
   encodes_octets format graph (Array elem n) (Items values) d f p x r =

@@ -17,13 +17,17 @@ place_passes : (there held : Bool) → (there ≡ true → held ≡ true) → (h
 place_passes true held h = subst (λ b. (b || false) ≡ true) (sym (h refl)) refl
 place_passes false held h = or_right held true refl
 
-places_pass : (n set : ℕ) (holds : ℕ → Bool) → ((p : ℕ) → p < n → has set p ≡ true → holds p ≡ true) → at_places n set holds ≡ true
+places_pass : (n set : ℕ) (holds : ℕ → Bool) → ((p : ℕ) → p < n → has set p ≡ true → holds p ≡ true)
+    → at_places n set holds ≡ true
 places_pass zero set holds h = refl
 places_pass (suc n) set holds h =
-    and_from (at_places n set holds) (holds n || not (has set n)) (places_pass n set holds (λ p lt there. h p (omega (arith, lt)) there)) (place_passes (has set n) (holds n) (h n (omega arith)))
+    and_from (at_places n set holds) (holds n || not (has set n))
+    (places_pass n set holds (λ p lt there. h p (omega (arith, lt)) there))
+    (place_passes (has set n) (holds n) (h n (omega arith)))
 
 -- what holds at each place of the set passes its test
-pub each_passes : (set : ℕ) (holds : ℕ → Bool) → ((p : ℕ) → p < 8 → has set p ≡ true → holds p ≡ true) → each_place set holds ≡ true
+pub each_passes : (set : ℕ) (holds : ℕ → Bool) → ((p : ℕ) → p < 8 → has set p ≡ true → holds p ≡ true)
+    → each_place set holds ≡ true
 unfolding each_place
 each_passes set holds h = places_pass 8 set holds h
 
@@ -60,13 +64,16 @@ none_serves set lead = refl
 
 -- ---- exits that are all positions
 
-full_exits : (to : ℕ → ℕ) (n set : ℕ) → ((p : ℕ) → p < n → to p ≡ 255) → (from_places n set to ≡ 0) ⊎ (from_places n set to ≡ 255)
+full_exits : (to : ℕ → ℕ) (n set : ℕ) → ((p : ℕ) → p < n → to p ≡ 255) → (from_places n set to ≡ 0)
+    ⊎ (from_places n set to ≡ 255)
 full_exits to zero set h = inl refl
 full_exits to (suc n) set h =
-    subst (λ last. (bit_or (from_places n set to) (if has set n then last else 0) ≡ 0) ⊎ (bit_or (from_places n set to) (if has set n then last else 0) ≡ 255)) (sym (h n (omega arith)))
+    subst (λ last. (bit_or (from_places n set to) (if has set n then last else 0) ≡ 0)
+    ⊎ (bit_or (from_places n set to) (if has set n then last else 0) ≡ 255)) (sym (h n (omega arith)))
     (by (from_places n set to) (has set n) (full_exits to n set (λ p lt. h p (omega (arith, lt)))))
   where
-    by : (before : ℕ) (there : Bool) → (before ≡ 0) ⊎ (before ≡ 255) → (bit_or before (if there then 255 else 0) ≡ 0) ⊎ (bit_or before (if there then 255 else 0) ≡ 255)
+    by : (before : ℕ) (there : Bool) → (before ≡ 0) ⊎ (before ≡ 255) → (bit_or before (if there then 255 else 0) ≡ 0)
+        ⊎ (bit_or before (if there then 255 else 0) ≡ 255)
     by before true (inl none) = inr (ap (λ b. bit_or b 255) none)
     by before true (inr all) = inr (ap (λ b. bit_or b 255) all)
     by before false (inl none) = inl (ap (λ b. bit_or b 0) none)
@@ -100,20 +107,26 @@ closure_still (suc n) exits set e =
 closure_full : (n : ℕ) (exits : List ℕ) (set p : ℕ) → left set exits ≡ 255 → Among (closure (suc n) exits set) p
 unfolding closure
 closure_full n exits set p e =
-    among_closure n exits (bit_or set (left set exits)) p (among_or_right set (left set exits) p (subst (λ all. Among all p) (sym e) (among_all p)))
+    among_closure n exits (bit_or set (left set exits)) p
+    (among_or_right set (left set exits) p (subst (λ all. Among all p) (sym e) (among_all p)))
 
 pub none_among : (p : ℕ) → Among 0 p → ⊥
 none_among p h = let none = bit_at-zero (p % 8) in let one = eqb-true (bit_at 0 (p % 8)) 1 h in omega (arith, none, one)
 
 -- where elements start, the next may start
-pub closure_closed : (set : ℕ) → is_within (left (closure 8 (replicate 8 255) set) (replicate 8 255)) (closure 8 (replicate 8 255) set) ≡ true
-closure_closed set = elim (left_full set) as (λ v. is_within (left (closure 8 (replicate 8 255) set) (replicate 8 255)) (closure 8 (replicate 8 255) set) ≡ true) [
-  | inl none ↦
-      let still = closure_still 8 (replicate 8 255) set none in
-      subst (λ from. is_within (left from (replicate 8 255)) from ≡ true) (sym still)
-      (subst (λ after. is_within after set ≡ true) (sym none) (within_from 0 set (λ p there. absurd (none_among p there))))
-  | inr all ↦ within_from (left (closure 8 (replicate 8 255) set) (replicate 8 255)) (closure 8 (replicate 8 255) set) (λ p there. closure_full 7 (replicate 8 255) set p all)
-]
+pub closure_closed : (set : ℕ)
+    → is_within (left (closure 8 (replicate 8 255) set) (replicate 8 255)) (closure 8 (replicate 8 255) set) ≡ true
+closure_closed set = elim (left_full set) as
+    (λ v. is_within (left (closure 8 (replicate 8 255) set) (replicate 8 255)) (closure 8 (replicate 8 255) set) ≡ true) [
+      | inl none ↦
+          let still = closure_still 8 (replicate 8 255) set none in
+          subst (λ from. is_within (left from (replicate 8 255)) from ≡ true) (sym still)
+          (subst (λ after. is_within after set ≡ true) (sym none)
+          (within_from 0 set (λ p there. absurd (none_among p there))))
+      | inr all ↦ within_from (left (closure 8 (replicate 8 255) set) (replicate 8 255))
+          (closure 8 (replicate 8 255) set)
+          (λ p there. closure_full 7 (replicate 8 255) set p all)
+    ]
 
 pub elements_enter : (set : ℕ) → enters_elements 255 (replicate 8 255) (closure 8 (replicate 8 255) set) ≡ true
 elements_enter set =
@@ -123,4 +136,6 @@ elements_enter set =
 pub times_enter : (n : ℕ) (exits : List ℕ) (set : ℕ) → enters_times n 255 exits set ≡ true
 unfolding enters_times
 times_enter zero exits set = refl
-times_enter (suc n) exits set = and_from (is_within set 255) (enters_times n 255 exits (left set exits)) (within_all set) (times_enter n exits (left set exits))
+times_enter (suc n) exits set =
+    and_from (is_within set 255) (enters_times n 255 exits (left set exits)) (within_all set)
+    (times_enter n exits (left set exits))

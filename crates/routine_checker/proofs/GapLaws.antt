@@ -13,11 +13,13 @@ use Rattle.routine_checker.specs.Sets.{Among, moved, gaps_agree, gaps_serve}
 use Rattle.routine_checker.proofs.SetLaws.{agreed, served, among_moved}
 
 -- a gap to one width is a gap to another where both are as long
-pub gap_for : {format : Format} (w v : Width) (p : ℕ) (tape octets : List ℕ) → pad p (octets_in w) ≡ pad p (octets_in v) → Gap format w p tape octets → Gap format v p tape octets
+pub gap_for : {format : Format} (w v : Width) (p : ℕ) (tape octets : List ℕ) → pad p (octets_in w) ≡ pad p (octets_in v)
+    → Gap format w p tape octets → Gap format v p tape octets
 gap_for w v p t x e r = record { no_tape = r.no_tape; gap = record { long = r.gap.long ∙ e; filled = r.gap.filled } }
 
 -- gaps that agree at the places of a set are the same there
-pub gaps_same : {format : Format} (set : ℕ) (w v : Width) → gaps_agree set w v ≡ true → Same (Among set) (Gap format w) (Gap format v)
+pub gaps_same : {format : Format} (set : ℕ) (w v : Width) → gaps_agree set w v ≡ true
+    → Same (Among set) (Gap format w) (Gap format v)
 gaps_same set w v e = record {
   to = λ p t x s r. gap_for w v p t x (agreed set w v e p s) r;
   from = λ p t x s r. gap_for v w p t x (sym (agreed set w v e p s)) r;
@@ -41,10 +43,15 @@ abbrev pub Long : ℕ → Relation → Type 0
 Long n R = (p : ℕ) (tape octets : List ℕ) → R p tape octets → length octets ≡ n
 
 pub long_ends : {R : Relation} (set : ℕ) (w : Width) (n : ℕ) → Long n R → Ends (Behind set w) (Among (moved set w n)) R
-long_ends set w n long = record { at = λ p t x b r. subst (λ l. Among (moved set w n) (p + l)) (sym (long p t x r)) (behind_moved set w n p b) }
+long_ends set w n long =
+    record {
+      at = λ p t x b r. subst (λ l. Among (moved set w n) (p + l)) (sym (long p t x r))
+          (behind_moved set w n p b);
+    }
 
 -- a gap, and so many octets behind it
-pub gap_long_ends : {format : Format} {R : Relation} (set : ℕ) (w : Width) (n : ℕ) → Long n R → Ends (Among set) (Among (moved set w n)) (Then (Gap format w) R)
+pub gap_long_ends : {format : Format} {R : Relation} (set : ℕ) (w : Width) (n : ℕ) → Long n R
+    → Ends (Among set) (Among (moved set w n)) (Then (Gap format w) R)
 gap_long_ends set w n long = then_ends (gap_behind set w) (long_ends set w n long)
 
 -- a gap alone ends where the checker says that what follows starts
@@ -59,7 +66,8 @@ gap_moved set w = record {
 -- ---- a gap in front of what begins with a gap
 
 -- a gap of no octets, whatever stands behind it
-pub no_gap_then : {format : Format} {R : Relation} (w : Width) (p : ℕ) (tape octets : List ℕ) → pad p (octets_in w) ≡ 0 → Then (Gap format w) R p tape octets → R p tape octets
+pub no_gap_then : {format : Format} {R : Relation} (w : Width) (p : ℕ) (tape octets : List ℕ) → pad p (octets_in w) ≡ 0
+    → Then (Gap format w) R p tape octets → R p tape octets
 no_gap_then {R = R} w p t x none r =
     let empty : r.octets1 ≡ [] = nil_from_length r.octets1 (let long = r.first.gap.long in omega (arith, long, none)) in
     (nothing_then {S = Anywhere} {R = R}).to p t x tt (record {
@@ -73,7 +81,8 @@ no_gap_then {R = R} w p t x none r =
       second = r.second;
     })
 
-pub with_no_gap : {format : Format} {R : Relation} (w : Width) (p : ℕ) (tape octets : List ℕ) → pad p (octets_in w) ≡ 0 → R p tape octets → Then (Gap format w) R p tape octets
+pub with_no_gap : {format : Format} {R : Relation} (w : Width) (p : ℕ) (tape octets : List ℕ) → pad p (octets_in w) ≡ 0
+    → R p tape octets → Then (Gap format w) R p tape octets
 with_no_gap {format} {R} w p t x none r = record {
   tape1 = [];
   tape2 = t;
@@ -86,7 +95,9 @@ with_no_gap {format} {R} w p t x none r = record {
 }
 
 -- the gap behind which something stands is exchanged for one as long
-other_gap : {format : Format} {R : Relation} (w v : Width) (p : ℕ) (tape octets : List ℕ) → pad p (octets_in w) ≡ pad p (octets_in v) → Then (Gap format w) R p tape octets → Then (Gap format v) R p tape octets
+other_gap : {format : Format} {R : Relation} (w v : Width) (p : ℕ) (tape octets : List ℕ)
+    → pad p (octets_in w) ≡ pad p (octets_in v) → Then (Gap format w) R p tape octets
+    → Then (Gap format v) R p tape octets
 other_gap w v p t x e r = record {
   tape1 = r.tape1;
   tape2 = r.tape2;
@@ -99,7 +110,8 @@ other_gap w v p t x e r = record {
 }
 
 -- a gap that serves changes nothing in front of what leads with the gap that is due
-pub gap_serves : {format : Format} {R : Relation} (set : ℕ) (made lead : Width) → gaps_serve set made lead ≡ true → Leads format lead R → Same (Among set) (Then (Gap format made) R) R
+pub gap_serves : {format : Format} {R : Relation} (set : ℕ) (made lead : Width) → gaps_serve set made lead ≡ true
+    → Leads format lead R → Same (Among set) (Then (Gap format made) R) R
 gap_serves {format} {R} set made lead e leads = record {
   to = λ p t x s r. elim (served set made lead e p s) as (λ v. R p t x) [
     | inl none ↦ no_gap_then made p t x none r

@@ -28,9 +28,12 @@ unfolding each_place
 none_serves set lead = refl
 
 -- all of the arms, and what is chosen otherwise
-pub all_arms : (test : ℕ → Bool) (arms : List (ℤ × ℕ)) (otherwise : Option ℕ) → list_all test (arms_of arms otherwise) ≡ (list_all (λ arm. test arm.1) arms && list_all test (option_to_list otherwise))
+pub all_arms : (test : ℕ → Bool) (arms : List (ℤ × ℕ)) (otherwise : Option ℕ)
+    → list_all test (arms_of arms otherwise)
+    ≡ (list_all (λ arm. test arm.1) arms && list_all test (option_to_list otherwise))
 all_arms test arms otherwise =
-    list_all-append test (map (λ arm. arm.1) arms) (option_to_list otherwise) ∙ ap (λ b. b && list_all test (option_to_list otherwise)) (list_all-map test (λ arm. arm.1) arms)
+    list_all-append test (map (λ arm. arm.1) arms) (option_to_list otherwise)
+    ∙ ap (λ b. b && list_all test (option_to_list otherwise)) (list_all-map test (λ arm. arm.1) arms)
 
 -- sets are joined in any order
 bits_assoc : (a b c : ℕ) → max (max a b) c ≡ max a (max b c)
@@ -41,31 +44,42 @@ bits_swap a b = omega arith
 
 pub or_assoc : (a b c : ℕ) → bit_or (bit_or a b) c ≡ bit_or a (bit_or b c)
 or_assoc a b c = same_from_bits (bit_or (bit_or a b) c) (bit_or a (bit_or b c)) (λ i.
-    bit_at_or (bit_or a b) c i ∙ ap (λ n. max n (bit_at c i)) (bit_at_or a b i) ∙ bits_assoc (bit_at a i) (bit_at b i) (bit_at c i)
+    bit_at_or (bit_or a b) c i ∙ ap (λ n. max n (bit_at c i)) (bit_at_or a b i)
+    ∙ bits_assoc (bit_at a i) (bit_at b i) (bit_at c i)
     ∙ sym (bit_at_or a (bit_or b c) i ∙ ap (max (bit_at a i)) (bit_at_or b c i)))
 
 pub or_swap : (a b : ℕ) → bit_or a b ≡ bit_or b a
-or_swap a b = same_from_bits (bit_or a b) (bit_or b a) (λ i. bit_at_or a b i ∙ bits_swap (bit_at a i) (bit_at b i) ∙ sym (bit_at_or b a i))
+or_swap a b = same_from_bits (bit_or a b) (bit_or b a)
+    (λ i. bit_at_or a b i ∙ bits_swap (bit_at a i) (bit_at b i) ∙ sym (bit_at_or b a i))
 
 pub or_nothing : (a : ℕ) → a ≡ bit_or a 0
 or_nothing a = sym (or_zero_r a)
 
 -- where routines end, in parts
-pub left_append : (program : List Routine) (places : ℕ) (xs ys : List ℕ) → left_by program places (xs ++ ys) ≡ bit_or (left_by program places xs) (left_by program places ys)
+pub left_append : (program : List Routine) (places : ℕ) (xs ys : List ℕ)
+    → left_by program places (xs ++ ys) ≡ bit_or (left_by program places xs) (left_by program places ys)
 left_append program places [] ys = sym (or_zero_l (left_by program places ys))
 left_append program places (x ∷ xs) ys =
     ap (bit_or (left places (exits_at program x))) (left_append program places xs ys)
     ∙ sym (or_assoc (left places (exits_at program x)) (left_by program places xs) (left_by program places ys))
 
 -- of the arms from one on
-pub left_from : (program : List Routine) (places : ℕ) (arms : List (ℤ × ℕ)) (otherwise : Option ℕ) → bit_or (left_by program places (option_to_list otherwise)) (left_by program places (map (λ arm. arm.1) arms)) ≡ left_by program places (arms_of arms otherwise)
+pub left_from : (program : List Routine) (places : ℕ) (arms : List (ℤ × ℕ)) (otherwise : Option ℕ)
+    → bit_or (left_by program places (option_to_list otherwise)) (left_by program places (map (λ arm. arm.1) arms))
+    ≡ left_by program places (arms_of arms otherwise)
 left_from program places arms otherwise =
-    or_swap (left_by program places (option_to_list otherwise)) (left_by program places (map (λ arm. arm.1) arms)) ∙ sym (left_append program places (map (λ arm. arm.1) arms) (option_to_list otherwise))
+    or_swap (left_by program places (option_to_list otherwise)) (left_by program places (map (λ arm. arm.1) arms))
+    ∙ sym (left_append program places (map (λ arm. arm.1) arms) (option_to_list otherwise))
 
 pub left_arm : (program : List Routine) (places ends : ℕ) (arms : List (ℤ × ℕ)) (k : ℕ) (d : ℤ × ℕ) → k < length arms
-    → bit_or (bit_or ends (left places (exits_at program (get_or arms k d).1))) (left_by program places (map (λ arm. arm.1) (drop (k + 1) arms))) ≡ bit_or ends (left_by program places (map (λ arm. arm.1) (drop k arms)))
+    → bit_or (bit_or ends (left places (exits_at program (get_or arms k d).1)))
+    (left_by program places (map (λ arm. arm.1) (drop (k + 1) arms)))
+    ≡ bit_or ends (left_by program places (map (λ arm. arm.1) (drop k arms)))
 left_arm program places ends arms k d lt =
     let next : k + 1 ≡ suc k = omega arith in
-    or_assoc ends (left places (exits_at program (get_or arms k d).1)) (left_by program places (map (λ arm. arm.1) (drop (k + 1) arms)))
-    ∙ ap (λ n. bit_or ends (bit_or (left places (exits_at program (get_or arms k d).1)) (left_by program places (map (λ (arm : ℤ × ℕ). arm.1) (drop n arms))))) next
-    ∙ ap (λ (more : List (ℤ × ℕ)). bit_or ends (left_by program places (map (λ arm. arm.1) more))) (sym (drop-cons arms k d lt))
+    or_assoc ends (left places (exits_at program (get_or arms k d).1))
+    (left_by program places (map (λ arm. arm.1) (drop (k + 1) arms)))
+    ∙ ap (λ n. bit_or ends (bit_or (left places (exits_at program (get_or arms k d).1))
+    (left_by program places (map (λ (arm : ℤ × ℕ). arm.1) (drop n arms))))) next
+    ∙ ap (λ (more : List (ℤ × ℕ)). bit_or ends (left_by program places (map (λ arm. arm.1) more)))
+    (sym (drop-cons arms k d lt))

@@ -26,11 +26,13 @@ moves_always Two = refl
 moves_always Four = refl
 moves_always Eight = refl
 
-pub moved_by_mask : (set : ℕ) (w : Width) (n : ℕ) → set < 256 → n < 8 → rotate_left w8 (lined_up w set) n ≡ moved set w n
+pub moved_by_mask : (set : ℕ) (w : Width) (n : ℕ) → set < 256 → n < 8
+    → rotate_left w8 (lined_up w set) n ≡ moved set w n
 unfolding moves moves_all
 moved_by_mask set w n within few =
     let all : moves_all w n ≡ true = agree_below_at (moves_all w) (λ n. true) 8 n (moves_always w) few in
-    eqb-true (rotate_left w8 (lined_up w set) n) (moved set w n) (agree_below_at (moves w n) (λ set. true) 256 set all within)
+    eqb-true (rotate_left w8 (lined_up w set) n) (moved set w n)
+    (agree_below_at (moves w n) (λ set. true) 256 set all within)
 
 -- ---- sets within sets
 
@@ -47,7 +49,8 @@ bit_within set other i within lt =
     (λ one. ap (bit_at other) (sym place) ∙ eqb-true (bit_at other (i % 8)) 1
     (within_among set other within i (eq-eqb (bit_at set (i % 8)) 1 (ap (bit_at set) place ∙ one))))
 
-mask_of_within : (set other : ℕ) → set < 256 → bit_and set other < 256 → is_within set other ≡ true → bit_and set other ≡ set
+mask_of_within : (set other : ℕ) → set < 256 → bit_and set other < 256 → is_within set other ≡ true
+    → bit_and set other ≡ set
 mask_of_within set other small less within =
     same_from_bits_below 8 (bit_and set other) set less small (λ i lt. bit_within set other i within lt)
 
@@ -64,14 +67,16 @@ place_within set other n mask =
       | inr none ↦
           let same : min (bit_at set (n % 8)) (bit_at other (n % 8)) ≡ bit_at set (n % 8) =
           sym (bit_at_and set other (n % 8)) ∙ ap (λ s. bit_at s (n % 8)) mask in
-          let zeroed : bit_at set (n % 8) ≡ 0 = lacked (bit_at set (n % 8)) (bit_at other (n % 8)) (bit_at-lt other (n % 8)) none same in
+          let zeroed : bit_at set (n % 8) ≡ 0 =
+          lacked (bit_at set (n % 8)) (bit_at other (n % 8)) (bit_at-lt other (n % 8)) none same in
           or_right (has other n) (not (has set n)) (not_from_false (has set n) (ap (λ b. eqb b 1) zeroed))
     ]
 
 places_within : (n set other : ℕ) → bit_and set other ≡ set → at_places n set (has other) ≡ true
 places_within zero set other mask = refl
 places_within (suc n) set other mask =
-    and_from (at_places n set (has other)) (has other n || not (has set n)) (places_within n set other mask) (place_within set other n mask)
+    and_from (at_places n set (has other)) (has other n || not (has set n)) (places_within n set other mask)
+    (place_within set other n mask)
 
 same_test : (a b : Bool) → (a ≡ true → b ≡ true) → (b ≡ true → a ≡ true) → a ≡ b
 same_test true b to from = sym (to refl)

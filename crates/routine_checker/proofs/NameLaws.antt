@@ -12,7 +12,8 @@ use Rattle.routine_checker.proofs.OwnRoutines.{Own}
 
 module _ (program : List Routine) (own : (number : ℕ) → number < length program → Own program number) where
   -- whether a routine serves a node is seen from the place of the routine
-  serving_at : (d : Routine) (number place : ℕ) → place < length program → (is_serving number (slice_index_or program place d) ≡ ((place == number) && true))
+  serving_at : (d : Routine) (number place : ℕ) → place < length program
+      → (is_serving number (slice_index_or program place d) ≡ ((place == number) && true))
   serving_at d number place lt =
       let mine = own place lt in
       ap (is_serving number) (get_or_from_slice_get program place mine.routine d mine.there)
@@ -24,10 +25,13 @@ module _ (program : List Routine) (own : (number : ℕ) → number < length prog
       let d : Routine = (own number lt).routine in
       let here : position_or_len (is_serving number) program ≡ number =
       position_or_len_is (is_serving number) program number d (omega (arith, lt))
-      (λ k before. serving_at d number k (omega (arith, lt, before)) ∙ and_left (k == number) true (ne_eqb k number (λ same. omega (arith, before, same))))
+      (λ k before. serving_at d number k (omega (arith, lt, before))
+      ∙ and_left (k == number) true (ne_eqb k number (λ same. omega (arith, before, same))))
       (λ inside. serving_at d number number lt ∙ and_from (number == number) true (eq-eqb number number refl) refl) in
-      ap (λ (n : ℕ). cond (nat_lt n (length program)) (Some n) None) here ∙ ap (λ (b : Bool). cond b (Some number) None) (lt-ltb number (length program) lt)
+      ap (λ (n : ℕ). cond (nat_lt n (length program)) (Some n) None) here
+      ∙ ap (λ (b : Bool). cond b (Some number) None) (lt-ltb number (length program) lt)
 
   -- so no name of a node is refused
   pub own_named : (number : ℕ) → number < length program → name_fault program number ≡ None
-  own_named number lt = ap (λ found. name_fault_by (is_some found) (has_routine program number) number) (own_serves number lt)
+  own_named number lt = ap (λ found. name_fault_by (is_some found) (has_routine program number) number)
+      (own_serves number lt)

@@ -34,18 +34,25 @@ module _ (program : List Routine) (number : ℕ) (own : Own program number) wher
   own_is = own_node number ∙ eq-eqb number number refl
 
   -- and of none that is higher
-  pub own_isnt : (graph : List Node) (other : ℕ) → height_of graph number < height_of graph other → is_routine_of program number other ≡ false
-  own_isnt graph other lt = own_node other ∙ ne_eqb number other (λ same. let heights = ap (height_of graph) same in omega (arith, lt, heights))
+  pub own_isnt : (graph : List Node) (other : ℕ) → height_of graph number < height_of graph other
+      → is_routine_of program number other ≡ false
+  own_isnt graph other lt = own_node other
+      ∙ ne_eqb number other (λ same. let heights = ap (height_of graph) same in omega (arith, lt, heights))
 
   -- it is entered where it may be, wherever it starts: once, so many times, for the elements of a sequence
   pub own_enters : (places : ℕ) → is_within places (entry_at program number) ≡ true
   own_enters places = ap (is_within places) own_entry ∙ within_all places
 
-  pub own_enters_times : (n places : ℕ) → enters_times n (entry_at program number) (exits_at program number) places ≡ true
-  own_enters_times n places = ap (λ entry. enters_times n entry (exits_at program number) places) own_entry ∙ times_enter n (exits_at program number) places
+  pub own_enters_times : (n places : ℕ) → enters_times n (entry_at program number) (exits_at program number) places
+      ≡ true
+  own_enters_times n places = ap (λ entry. enters_times n entry (exits_at program number) places) own_entry
+      ∙ times_enter n (exits_at program number) places
 
-  pub own_enters_elements : (places : ℕ) → enters_elements (entry_at program number) (exits_at program number) (closure 8 (exits_at program number) places) ≡ true
+  pub own_enters_elements : (places : ℕ)
+      → enters_elements (entry_at program number) (exits_at program number) (closure 8 (exits_at program number) places)
+      ≡ true
   own_enters_elements places =
-      ap (λ entry. enters_elements entry (exits_at program number) (closure 8 (exits_at program number) places)) own_entry
+      ap (λ entry. enters_elements entry (exits_at program number) (closure 8 (exits_at program number) places))
+      own_entry
       ∙ ap (λ exits. enters_elements 255 exits (closure 8 exits places)) own_exits
       ∙ elements_enter places

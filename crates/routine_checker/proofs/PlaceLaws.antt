@@ -6,10 +6,12 @@ use Rattle.type_graph.specs.Words.{octets_in, pad}
 use Rattle.routine_checker.specs.Sets.{has, at_places, each_place, from_places, gathered, is_within, moved, left, closure, gaps_agree, gaps_serve}
 use Rattle.routine_checker.specs.inner.Places.{agreeing}
 
-pub at_first_next : (n set : ℕ) (holds : ℕ → Bool) → at_places (n + 1) set holds ≡ (at_places n set holds && (holds n || not (has set n)))
+pub at_first_next : (n set : ℕ) (holds : ℕ → Bool)
+    → at_places (n + 1) set holds ≡ (at_places n set holds && (holds n || not (has set n)))
 at_first_next n set holds = let e : n + 1 ≡ suc n = omega arith in rw e refl
 
-pub from_first_next : (n set : ℕ) (to : ℕ → ℕ) → from_places (n + 1) set to ≡ bit_or (from_places n set to) (if has set n then to n else 0)
+pub from_first_next : (n set : ℕ) (to : ℕ → ℕ)
+    → from_places (n + 1) set to ≡ bit_or (from_places n set to) (if has set n then to n else 0)
 from_first_next n set to = let e : n + 1 ≡ suc n = omega arith in rw e refl
 
 -- gaps agree at the places of a table
@@ -33,7 +35,8 @@ agree_within set Eight Four = refl
 agree_within set Eight Eight = refl
 
 -- and serve at those of two
-pub serve_within : (set : ℕ) (made lead : Width) → is_within set (bit_or (agreeing made One) (agreeing made lead)) ≡ gaps_serve set made lead
+pub serve_within : (set : ℕ) (made lead : Width) → is_within set (bit_or (agreeing made One) (agreeing made lead))
+    ≡ gaps_serve set made lead
 unfolding each_place
 serve_within set One One = refl
 serve_within set One Two = refl
@@ -52,7 +55,8 @@ serve_within set Eight Two = refl
 serve_within set Eight Four = refl
 serve_within set Eight Eight = refl
 
-pub closure_next : (left_over : ℕ) (exits : List ℕ) (set : ℕ) → 0 < left_over → closure left_over exits set ≡ closure (left_over - 1) exits (bit_or set (left set exits))
+pub closure_next : (left_over : ℕ) (exits : List ℕ) (set : ℕ) → 0 < left_over
+    → closure left_over exits set ≡ closure (left_over - 1) exits (bit_or set (left set exits))
 unfolding closure
 closure_next zero exits set h = absurd (omega (arith, h))
 closure_next (suc n) exits set h = let e : suc n - 1 ≡ n = omega arith in rw e refl
@@ -72,9 +76,11 @@ step_place Eight p n = omega arith
 
 from_same : (n set : ℕ) (to by : ℕ → ℕ) → ((p : ℕ) → to p ≡ by p) → from_places n set to ≡ from_places n set by
 from_same zero set to by same = refl
-from_same (suc n) set to by same = ap (λ all. bit_or all (if has set n then to n else 0)) (from_same n set to by same) ∙ ap (λ one. bit_or (from_places n set by) (if has set n then one else 0)) (same n)
+from_same (suc n) set to by same = ap (λ all. bit_or all (if has set n then to n else 0)) (from_same n set to by same)
+    ∙ ap (λ one. bit_or (from_places n set by) (if has set n then one else 0)) (same n)
 
 -- how many octets there are matters modulo 8 alone
 pub moved_modulo : (set : ℕ) (w : Width) (n : ℕ) → moved set w (n % 8) ≡ moved set w n
 unfolding gathered
-moved_modulo set w n = from_same 8 set (λ p. 2 ^ ((p + pad p (octets_in w) + n % 8) % 8)) (λ p. 2 ^ ((p + pad p (octets_in w) + n) % 8)) (λ p. ap (λ k. 2 ^ k) (step_place w p n))
+moved_modulo set w n = from_same 8 set (λ p. 2 ^ ((p + pad p (octets_in w) + n % 8) % 8))
+    (λ p. 2 ^ ((p + pad p (octets_in w) + n) % 8)) (λ p. ap (λ k. 2 ^ k) (step_place w p n))

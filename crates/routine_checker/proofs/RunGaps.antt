@@ -14,7 +14,8 @@ use Rattle.routine_checker.proofs.FullSets.{none_among, each_passes}
 
 among_or : (set other p : ℕ) → Among (bit_or set other) p → Among set p ⊎ Among other p
 among_or set other p h =
-    let one : max (bit_at set (p % 8)) (bit_at other (p % 8)) ≡ 1 = sym (bit_at_or set other (p % 8)) ∙ eqb-true (bit_at (bit_or set other) (p % 8)) 1 h in
+    let one : max (bit_at set (p % 8)) (bit_at other (p % 8)) ≡ 1 =
+    sym (bit_at_or set other (p % 8)) ∙ eqb-true (bit_at (bit_or set other) (p % 8)) 1 h in
     elim (cases_eq (bit_at set (p % 8)) 1) as (λ v. Among set p ⊎ Among other p) [
       | inl here ↦ inl (eq-eqb (bit_at set (p % 8)) 1 here)
       | inr differs ↦ inr (eq-eqb (bit_at other (p % 8)) 1 (omega (arith, one, differs)))
@@ -28,13 +29,14 @@ record Led (set : ℕ) (to : ℕ → ℕ) (q : ℕ) : Type 0 where
 
 led_from : (n set : ℕ) (to : ℕ → ℕ) (q : ℕ) → Among (from_places n set to) q → Led set to q
 led_from zero set to q h = absurd (none_among q h)
-led_from (suc n) set to q h = elim (among_or (from_places n set to) (if has set n then to n else 0) q h) as (λ v. Led set to q) [
-  | inl before ↦ led_from n set to q before
-  | inr here ↦ by (has set n) refl here
-] where
-  by : (test : Bool) → has set n ≡ test → Among (if test then to n else 0) q → Led set to q
-  by true e here = record { place = n; there = e; leads = here }
-  by false e here = absurd (none_among q here)
+led_from (suc n) set to q h =
+    elim (among_or (from_places n set to) (if has set n then to n else 0) q h) as (λ v. Led set to q) [
+      | inl before ↦ led_from n set to q before
+      | inr here ↦ by (has set n) refl here
+    ] where
+      by : (test : Bool) → has set n ≡ test → Among (if test then to n else 0) q → Led set to q
+      by true e here = record { place = n; there = e; leads = here }
+      by false e here = absurd (none_among q here)
 
 led : (set : ℕ) (to : ℕ → ℕ) (q : ℕ) → Among (gathered set to) q → Led set to q
 unfolding gathered
@@ -43,7 +45,8 @@ led set to q h = led_from 8 set to q h
 -- ---- behind a run
 
 -- so many words behind a gap to their width
-run_end : (w : Width) (p n q : ℕ) → q % 8 ≡ (p + pad p (octets_in w) + n * octets_in w) % 8 → pad q 1 ≡ pad q (octets_in w)
+run_end : (w : Width) (p n q : ℕ) → q % 8 ≡ (p + pad p (octets_in w) + n * octets_in w) % 8
+    → pad q 1 ≡ pad q (octets_in w)
 run_end One p n q e = refl
 run_end Two p n q e = omega (arith, e)
 run_end Four p n q e = omega (arith, e)
@@ -57,9 +60,11 @@ gaps_behind set w n =
     (λ q lt there.
     let from = led set to q there in
     let p = from.place in
-    eq-eqb (pad q 1) (pad q (octets_in w)) (run_end w p n q (place_among ((p + pad p (octets_in w) + n * octets_in w) % 8) q from.leads)))
+    eq-eqb (pad q 1) (pad q (octets_in w))
+    (run_end w p n q (place_among ((p + pad p (octets_in w) + n * octets_in w) % 8) q from.leads)))
 
-narrower : (v w : Width) (p : ℕ) → octets_in w ≤ octets_in v → pad p 1 ≡ pad p (octets_in v) → pad p 1 ≡ pad p (octets_in w)
+narrower : (v w : Width) (p : ℕ) → octets_in w ≤ octets_in v → pad p 1 ≡ pad p (octets_in v)
+    → pad p 1 ≡ pad p (octets_in w)
 narrower v One p le e = refl
 narrower Two Two p le e = e
 narrower Four Four p le e = e
@@ -75,7 +80,8 @@ narrower Two Eight p le e = absurd (omega (arith, le))
 narrower Four Eight p le e = absurd (omega (arith, le))
 
 -- nor one to a narrower width
-pub gaps_narrower : (set : ℕ) (v w : Width) → octets_in w ≤ octets_in v → gaps_agree set One v ≡ true → gaps_agree set One w ≡ true
+pub gaps_narrower : (set : ℕ) (v w : Width) → octets_in w ≤ octets_in v → gaps_agree set One v ≡ true
+    → gaps_agree set One w ≡ true
 gaps_narrower set v w le e =
     each_passes set (λ q. eqb (pad q 1) (pad q (octets_in w)))
     (λ q lt there. eq-eqb (pad q 1) (pad q (octets_in w)) (narrower v w q le (agreed set One v e q there)))

@@ -30,14 +30,16 @@ holds_there true there e h = refl
 holds_there false true e h = absurd (true≢false (sym e))
 holds_there false false e h = h
 
-at_first : (n set : ℕ) (holds : ℕ → Bool) → at_places n set holds ≡ true → (p : ℕ) → p < n → has set p ≡ true → holds p ≡ true
+at_first : (n set : ℕ) (holds : ℕ → Bool) → at_places n set holds ≡ true → (p : ℕ) → p < n → has set p ≡ true
+    → holds p ≡ true
 at_first zero set holds e p lt h = absurd (omega arith)
 at_first (suc n) set holds e p lt h =
     let parts = both (at_places n set holds) (holds n || not (has set n)) e in
     elim (cases_lt p n) as (λ v. holds p ≡ true) [
       | inl before ↦ at_first n set holds parts.0 p before h
       | inr past ↦ let same : p ≡ n = omega arith in
-          subst (λ q. holds q ≡ true) (sym same) (holds_there (holds n) (has set n) parts.1 (subst (λ q. has set q ≡ true) same h))
+          subst (λ q. holds q ≡ true) (sym same)
+          (holds_there (holds n) (has set n) parts.1 (subst (λ q. has set q ≡ true) same h))
     ]
 
 -- at each position of the set
@@ -56,18 +58,24 @@ pad_place Four p = omega arith
 pad_place Eight p = omega arith
 
 -- gaps that agree are as long
-pub agreed : (set : ℕ) (made due : Width) → gaps_agree set made due ≡ true → (p : ℕ) → Among set p → pad p (octets_in made) ≡ pad p (octets_in due)
+pub agreed : (set : ℕ) (made due : Width) → gaps_agree set made due ≡ true → (p : ℕ) → Among set p
+    → pad p (octets_in made) ≡ pad p (octets_in due)
 agreed set made due e p h =
-    sym (pad_place made p) ∙ eqb-true (pad (p % 8) (octets_in made)) (pad (p % 8) (octets_in due)) (at_each set (λ q. eqb (pad q (octets_in made)) (pad q (octets_in due))) e p h) ∙ pad_place due p
+    sym (pad_place made p) ∙ eqb-true (pad (p % 8) (octets_in made)) (pad (p % 8) (octets_in due))
+    (at_each set (λ q. eqb (pad q (octets_in made)) (pad q (octets_in due))) e p h) ∙ pad_place due p
 
 -- a gap that serves is none, or as long as the one to the lead
-pub served : (set : ℕ) (made lead : Width) → gaps_serve set made lead ≡ true → (p : ℕ) → Among set p → (pad p (octets_in made) ≡ 0) ⊎ (pad p (octets_in made) ≡ pad p (octets_in lead))
+pub served : (set : ℕ) (made lead : Width) → gaps_serve set made lead ≡ true → (p : ℕ) → Among set p
+    → (pad p (octets_in made) ≡ 0) ⊎ (pad p (octets_in made) ≡ pad p (octets_in lead))
 served set made lead e p h =
     let q = p % 8 in
-    elim (either (eqb (pad q (octets_in made)) 0) (eqb (pad q (octets_in made)) (pad q (octets_in lead))) (at_each set (λ q. eqb (pad q (octets_in made)) 0 || eqb (pad q (octets_in made)) (pad q (octets_in lead))) e p h))
+    elim (either (eqb (pad q (octets_in made)) 0) (eqb (pad q (octets_in made)) (pad q (octets_in lead)))
+    (at_each set (λ q. eqb (pad q (octets_in made)) 0 || eqb (pad q (octets_in made)) (pad q (octets_in lead))) e p
+    h))
     as (λ v. (pad p (octets_in made) ≡ 0) ⊎ (pad p (octets_in made) ≡ pad p (octets_in lead))) [
       | inl none ↦ inl (sym (pad_place made p) ∙ eqb-true (pad (p % 8) (octets_in made)) 0 none)
-      | inr same ↦ inr (sym (pad_place made p) ∙ eqb-true (pad (p % 8) (octets_in made)) (pad (p % 8) (octets_in lead)) same ∙ pad_place lead p)
+      | inr same ↦ inr (sym (pad_place made p)
+          ∙ eqb-true (pad (p % 8) (octets_in made)) (pad (p % 8) (octets_in lead)) same ∙ pad_place lead p)
     ]
 
 -- ---- what a set leads to
@@ -81,17 +89,23 @@ max_right a b e lt = omega arith
 
 pub among_or_left : (set other : ℕ) (p : ℕ) → Among set p → Among (bit_or set other) p
 among_or_left set other p h =
-    eq-eqb (bit_at (bit_or set other) (p % 8)) 1 (bit_at_or set other (p % 8) ∙ max_left (bit_at set (p % 8)) (bit_at other (p % 8)) (eqb-true (bit_at set (p % 8)) 1 h) (bit_at-lt other (p % 8)))
+    eq-eqb (bit_at (bit_or set other) (p % 8)) 1
+    (bit_at_or set other (p % 8) ∙ max_left (bit_at set (p % 8)) (bit_at other (p % 8))
+    (eqb-true (bit_at set (p % 8)) 1 h) (bit_at-lt other (p % 8)))
 
 pub among_or_right : (set other : ℕ) (p : ℕ) → Among other p → Among (bit_or set other) p
 among_or_right set other p h =
-    eq-eqb (bit_at (bit_or set other) (p % 8)) 1 (bit_at_or set other (p % 8) ∙ max_right (bit_at set (p % 8)) (bit_at other (p % 8)) (eqb-true (bit_at other (p % 8)) 1 h) (bit_at-lt set (p % 8)))
+    eq-eqb (bit_at (bit_or set other) (p % 8)) 1
+    (bit_at_or set other (p % 8) ∙ max_right (bit_at set (p % 8)) (bit_at other (p % 8))
+    (eqb-true (bit_at other (p % 8)) 1 h) (bit_at-lt set (p % 8)))
 
-from_first : (n set : ℕ) (to : ℕ → ℕ) (p q : ℕ) → p < n → has set p ≡ true → Among (to p) q → Among (from_places n set to) q
+from_first : (n set : ℕ) (to : ℕ → ℕ) (p q : ℕ) → p < n → has set p ≡ true → Among (to p) q
+    → Among (from_places n set to) q
 from_first zero set to p q lt h there = absurd (omega arith)
 from_first (suc n) set to p q lt h there =
     elim (cases_lt p n) as (λ v. Among (from_places (suc n) set to) q) [
-      | inl before ↦ among_or_left (from_places n set to) (if has set n then to n else 0) q (from_first n set to p q before h there)
+      | inl before ↦ among_or_left (from_places n set to) (if has set n then to n else 0) q
+          (from_first n set to p q before h there)
       | inr past ↦ let same : p ≡ n = omega arith in
           let in_set : has set n ≡ true = subst (λ r. has set r ≡ true) same h in
           among_or_right (from_places n set to) (if has set n then to n else 0) q
@@ -100,16 +114,19 @@ from_first (suc n) set to p q lt h there =
 
 pub among_gathered : (set : ℕ) (to : ℕ → ℕ) (p q : ℕ) → Among set p → Among (to (p % 8)) q → Among (gathered set to) q
 unfolding gathered
-among_gathered set to p q h there = let lt : p % 8 < 8 = omega arith in from_first 8 set to (p % 8) q lt (has_place set p ∙ h) there
+among_gathered set to p q h there = let lt : p % 8 < 8 = omega arith in
+    from_first 8 set to (p % 8) q lt (has_place set p ∙ h) there
 
 -- the set of one place
 pub among_place : (place p : ℕ) → p % 8 ≡ place → Among (2 ^ place) p
-among_place place p e = eq-eqb (bit_at (2 ^ place) (p % 8)) 1 (subst (λ r. bit_at (2 ^ place) r ≡ 1) (sym e) (bit_at-pow_same place))
+among_place place p e = eq-eqb (bit_at (2 ^ place) (p % 8)) 1
+    (subst (λ r. bit_at (2 ^ place) r ≡ 1) (sym e) (bit_at-pow_same place))
 
 pub place_among : (place p : ℕ) → Among (2 ^ place) p → p % 8 ≡ place
 place_among place p h = elim (cases_eq (p % 8) place) as (λ v. p % 8 ≡ place) [
   | inl same ↦ same
-  | inr differs ↦ let none = bit_at-pow_other place (p % 8) differs in let one = eqb-true (bit_at (2 ^ place) (p % 8)) 1 h in absurd (omega (arith, none, one))
+  | inr differs ↦ let none = bit_at-pow_other place (p % 8) differs in let one =
+      eqb-true (bit_at (2 ^ place) (p % 8)) 1 h in absurd (omega (arith, none, one))
 ]
 
 moved_place : (w : Width) (p n : ℕ) → (p + pad p (octets_in w) + n) % 8 ≡ (p % 8 + pad (p % 8) (octets_in w) + n) % 8
@@ -123,7 +140,8 @@ among_moved set w n p h =
     among_gathered set (λ q. 2 ^ ((q + pad q (octets_in w) + n) % 8)) p (p + pad p (octets_in w) + n) h
     (among_place ((p % 8 + pad (p % 8) (octets_in w) + n) % 8) (p + pad p (octets_in w) + n) (moved_place w p n))
 
-pub among_left : (set : ℕ) (exits : List ℕ) (p q : ℕ) → Among set p → Among (slice_index_or exits (p % 8) 0) q → Among (left set exits) q
+pub among_left : (set : ℕ) (exits : List ℕ) (p q : ℕ) → Among set p → Among (slice_index_or exits (p % 8) 0) q
+    → Among (left set exits) q
 among_left set exits p q h there = among_gathered set (λ r. slice_index_or exits r 0) p q h there
 
 -- every position is among all

@@ -38,18 +38,35 @@ no_gap_due {w = w} = record {
 }
 
 -- from a multiple on, numbers are numbers with their gaps
-words_at : (format : Format) (w : Width) (n : ℕ) → Same (At w) (Many n (AnyWord format w)) (Many n (Then (Gap format w) (AnyWord format w)))
+words_at : (format : Format) (w : Width) (n : ℕ)
+    → Same (At w) (Many n (AnyWord format w)) (Many n (Then (Gap format w) (AnyWord format w)))
 words_at format w n = many_same n (same_sym no_gap_due) word_ends
 
 -- behind the gap before the first of one or more
-pub aligned_words : {S : Positions} (format : Format) (w : Width) (n : ℕ) → Same S (Then (Gap format w) (Many (suc n) (AnyWord format w))) (Many (suc n) (Then (Gap format w) (AnyWord format w)))
+pub aligned_words : {S : Positions} (format : Format) (w : Width) (n : ℕ)
+    → Same S (Then (Gap format w) (Many (suc n) (AnyWord format w)))
+    (Many (suc n) (Then (Gap format w) (AnyWord format w)))
 aligned_words format w n =
-    same_trans (same_sym then_assoc) (then_same {X = At w} same_refl (record { at = λ p t x s r. (then_ends (gap_ends {format = format} {w = w}) (word_ends {format = format} {w = w})).at p t x tt r }) (words_at format w n))
+    same_trans (same_sym then_assoc)
+    (then_same {X = At w} same_refl
+    (record {
+      at = λ p t x s r.
+          (then_ends (gap_ends {format = format} {w = w}) (word_ends {format = format} {w = w})).at p t x tt r;
+    })
+    (words_at format w n))
 
 -- they end at a multiple
-pub aligned_words_end : {S : Positions} (format : Format) (w : Width) (n : ℕ) → Ends S (At w) (Many (suc n) (Then (Gap format w) (AnyWord format w)))
-aligned_words_end format w n = then_ends {X = At w} (record { at = λ p t x s r. (then_ends (gap_ends {format = format} {w = w}) (word_ends {format = format} {w = w})).at p t x tt r }) (same_ends (words_at format w n) (many_ends n word_ends))
+pub aligned_words_end : {S : Positions} (format : Format) (w : Width) (n : ℕ)
+    → Ends S (At w) (Many (suc n) (Then (Gap format w) (AnyWord format w)))
+aligned_words_end format w n =
+    then_ends {X = At w} (record {
+      at =
+          λ p t x s r. (then_ends (gap_ends {format = format} {w = w}) (word_ends {format = format} {w = w})).at p t x
+          tt r;
+    })
+    (same_ends (words_at format w n) (many_ends n word_ends))
 
 -- n numbers have n times the octets of one
-pub words_long : (format : Format) (w : Width) (n p : ℕ) (tape octets : List ℕ) → Many n (AnyWord format w) p tape octets → length octets ≡ n * octets_in w
+pub words_long : (format : Format) (w : Width) (n p : ℕ) (tape octets : List ℕ)
+    → Many n (AnyWord format w) p tape octets → length octets ≡ n * octets_in w
 words_long format w n = many_long {R = AnyWord format w} (octets_in w) n (λ p t x r. held_word_long p t x r)

@@ -6,14 +6,17 @@ use Rattle.routine_checker.specs.inner.Work.{held, work_of}
 -- what is put on top comes first
 pub work_pushed : (items : List Item) (item : Item) → work_of (items ++ item ∷ []) ≡ held item ++ work_of items
 work_pushed [] item = sym (append-nil (held item))
-work_pushed (below ∷ items) item = ap (λ work. work ++ held below) (work_pushed items item) ∙ append_assoc (held item) (work_of items) (held below)
+work_pushed (below ∷ items) item = ap (λ work. work ++ held below) (work_pushed items item)
+    ∙ append_assoc (held item) (work_of items) (held below)
 
 -- what is on top came first
-pub work_popped : (items rest : List Item) (item : Item) → items ≡ rest ++ item ∷ [] → work_of items ≡ held item ++ work_of rest
+pub work_popped : (items rest : List Item) (item : Item) → items ≡ rest ++ item ∷ []
+    → work_of items ≡ held item ++ work_of rest
 work_popped items rest item e = ap work_of e ∙ work_pushed rest item
 
 -- one of some copies
-pub first_copy : (work rest left : List ℕ) (number n : ℕ) → 0 < n → work ≡ replicate n number ++ rest → left ≡ replicate (n - 1) number ++ rest → work ≡ number ∷ left
+pub first_copy : (work rest left : List ℕ) (number n : ℕ) → 0 < n → work ≡ replicate n number ++ rest
+    → left ≡ replicate (n - 1) number ++ rest → work ≡ number ∷ left
 first_copy work rest left number zero some e f = absurd (omega (arith, some))
 first_copy work rest left number (suc n) some e f =
     let fewer : suc n - 1 ≡ n = omega arith in

@@ -29,7 +29,8 @@ free node code = full node 255 code
 abbrev small : List Node
 small = nodes.Octet ∷ nodes.Integer Four false ∷ nodes.Text 0 ∷ nodes.Struct (0 ∷ 1 ∷ 2 ∷ []) ∷ []
 
-small_whole : program_fault 0 small (free 3 (Octets 1 ∷ Align Four ∷ Words Four 1 ∷ Align Four ∷ Text 0 ∷ []) ∷ []) ≡ None
+small_whole : program_fault 0 small (free 3 (Octets 1 ∷ Align Four ∷ Words Four 1 ∷ Align Four ∷ Text 0 ∷ []) ∷ [])
+    ≡ None
 unfolding routine_fault step taken taken_within each_place gathered is_done_within
 small_whole = refl
 
@@ -38,33 +39,42 @@ small_one_gap : program_fault 0 small (free 3 (Octets 1 ∷ Align Four ∷ Words
 unfolding routine_fault step taken taken_within each_place gathered is_done_within
 small_one_gap = refl
 
-small_no_gap : program_fault 0 small (free 3 (Octets 1 ∷ Words Four 1 ∷ Align Four ∷ Text 0 ∷ []) ∷ []) ≡ Some (WrongPadding (place_of 0 0) 1)
+small_no_gap : program_fault 0 small (free 3 (Octets 1 ∷ Words Four 1 ∷ Align Four ∷ Text 0 ∷ []) ∷ [])
+    ≡ Some (WrongPadding (place_of 0 0) 1)
 unfolding routine_fault step taken taken_within each_place gathered is_done_within
 small_no_gap = refl
 
-small_gap_to_eight : program_fault 0 small (free 3 (Octets 1 ∷ Align Eight ∷ Words Four 1 ∷ Align Four ∷ Text 0 ∷ []) ∷ []) ≡ Some (WrongPadding (place_of 0 0) 2)
+small_gap_to_eight : program_fault 0 small
+    (free 3 (Octets 1 ∷ Align Eight ∷ Words Four 1 ∷ Align Four ∷ Text 0 ∷ []) ∷ [])
+    ≡ Some (WrongPadding (place_of 0 0) 2)
 unfolding routine_fault step taken taken_within each_place gathered is_done_within
 small_gap_to_eight = refl
 
-small_gap_at_end : program_fault 0 small (free 3 (Octets 1 ∷ Align Four ∷ Words Four 1 ∷ Align Four ∷ Text 0 ∷ Align Four ∷ []) ∷ []) ≡ Some (WrongPadding (place_of 0 0) 6)
+small_gap_at_end : program_fault 0 small
+    (free 3 (Octets 1 ∷ Align Four ∷ Words Four 1 ∷ Align Four ∷ Text 0 ∷ Align Four ∷ []) ∷ [])
+    ≡ Some (WrongPadding (place_of 0 0) 6)
 unfolding routine_fault step taken taken_within each_place gathered is_done_within
 small_gap_at_end = refl
 
 -- two gaps in a row are the wider one
-small_two_gaps : program_fault 0 small (free 3 (Octets 1 ∷ Align Two ∷ Align Four ∷ Words Four 1 ∷ Text 0 ∷ []) ∷ []) ≡ None
+small_two_gaps : program_fault 0 small (free 3 (Octets 1 ∷ Align Two ∷ Align Four ∷ Words Four 1 ∷ Text 0 ∷ []) ∷ [])
+    ≡ None
 unfolding routine_fault step taken taken_within each_place gathered is_done_within
 small_two_gaps = refl
 
-small_cut : program_fault 0 small (free 3 (Octets 1 ∷ Align Four ∷ Words Four 1 ∷ []) ∷ []) ≡ Some (WrongWork (place_of 0 0) 3)
+small_cut : program_fault 0 small (free 3 (Octets 1 ∷ Align Four ∷ Words Four 1 ∷ []) ∷ [])
+    ≡ Some (WrongWork (place_of 0 0) 3)
 unfolding routine_fault step taken taken_within each_place gathered is_done_within
 small_cut = refl
 
-small_of_another : program_fault 0 small (free 2 (Octets 1 ∷ Align Four ∷ Words Four 1 ∷ Align Four ∷ Text 0 ∷ []) ∷ []) ≡ Some (WrongWork (place_of 0 0) 0)
+small_of_another : program_fault 0 small (free 2 (Octets 1 ∷ Align Four ∷ Words Four 1 ∷ Align Four ∷ Text 0 ∷ []) ∷ [])
+    ≡ Some (WrongWork (place_of 0 0) 0)
 unfolding routine_fault step taken taken_within each_place gathered is_done_within
 small_of_another = refl
 
 -- a node that is not in the graph
-small_of_none : program_fault 0 small (free 4 (Octets 1 ∷ Align Four ∷ Words Four 1 ∷ Align Four ∷ Text 0 ∷ []) ∷ []) ≡ Some (WrongWork (place_of 0 0) 0)
+small_of_none : program_fault 0 small (free 4 (Octets 1 ∷ Align Four ∷ Words Four 1 ∷ Align Four ∷ Text 0 ∷ []) ∷ [])
+    ≡ Some (WrongWork (place_of 0 0) 0)
 unfolding routine_fault step taken taken_within each_place gathered is_done_within
 small_of_none = refl
 
@@ -73,7 +83,14 @@ small_unnamed = refl
 
 -- from positions 3 and 7 no gap is due in front of the unsigned long
 abbrev small_some : List Routine
-small_some = record { node = 3; entry = 0x88; exits = replicate 8 255; rank = 0; code = Octets 1 ∷ Words Four 1 ∷ Align Four ∷ Text 0 ∷ [] } ∷ []
+small_some = record {
+  node = 3;
+  entry = 0x88;
+  exits = replicate 8 255;
+  rank = 0;
+  code =
+      Octets 1 ∷ Words Four 1 ∷ Align Four ∷ Text 0 ∷ [];
+} ∷ []
 
 small_some_entries : program_fault 0 small small_some ≡ None
 unfolding routine_fault step taken taken_within each_place gathered is_done_within
@@ -83,19 +100,23 @@ small_some_named : name_fault small_some 3 ≡ Some (NamedEntryNotFull 3)
 small_some_named = refl
 
 -- the routine of the text in the place of the unsigned long
-small_calls_another : program_fault 0 small (free 3 (Octets 1 ∷ Call 1 ∷ Align Four ∷ Text 0 ∷ []) ∷ free 2 (Align Four ∷ Text 0 ∷ []) ∷ []) ≡ Some (WrongWork (place_of 0 0) 1)
+small_calls_another : program_fault 0 small
+    (free 3 (Octets 1 ∷ Call 1 ∷ Align Four ∷ Text 0 ∷ []) ∷ free 2 (Align Four ∷ Text 0 ∷ []) ∷ [])
+    ≡ Some (WrongWork (place_of 0 0) 1)
 unfolding routine_fault step taken taken_within each_place gathered is_done_within
 small_calls_another = refl
 
 -- ---- numbers, alone and in a sequence
 
 -- an unsigned long without its gap
-long_alone : program_fault 0 (nodes.Integer Four false ∷ []) (free 0 (Words Four 1 ∷ []) ∷ []) ≡ Some (WrongPadding (place_of 0 0) 0)
+long_alone : program_fault 0 (nodes.Integer Four false ∷ []) (free 0 (Words Four 1 ∷ []) ∷ [])
+    ≡ Some (WrongPadding (place_of 0 0) 0)
 unfolding routine_fault step taken taken_within each_place gathered is_done_within
 long_alone = refl
 
 -- at the end a gap that is always empty
-long_gap_at_end : program_fault 0 (nodes.Integer Four false ∷ []) (free 0 (Align Four ∷ Words Four 1 ∷ Align Two ∷ []) ∷ []) ≡ None
+long_gap_at_end : program_fault 0 (nodes.Integer Four false ∷ [])
+    (free 0 (Align Four ∷ Words Four 1 ∷ Align Two ∷ []) ∷ []) ≡ None
 unfolding routine_fault step taken taken_within each_place gathered is_done_within
 long_gap_at_end = refl
 
@@ -108,11 +129,13 @@ unfolding routine_fault step taken taken_within each_place gathered is_done_with
 longs_whole = refl
 
 -- behind the count a gap to 8 is due, where there is an element
-longs_no_gap : program_fault 0 longs (free 1 (Align Four ∷ SeqWords Eight One 0 ∷ []) ∷ []) ≡ Some (WrongPadding (place_of 0 0) 1)
+longs_no_gap : program_fault 0 longs (free 1 (Align Four ∷ SeqWords Eight One 0 ∷ []) ∷ [])
+    ≡ Some (WrongPadding (place_of 0 0) 1)
 unfolding routine_fault step taken taken_within each_place gathered is_done_within is_one
 longs_no_gap = refl
 
-longs_gap_at_count : program_fault 0 longs (free 1 (Align Eight ∷ SeqWords Eight Eight 0 ∷ []) ∷ []) ≡ Some (WrongPadding (place_of 0 0) 1)
+longs_gap_at_count : program_fault 0 longs (free 1 (Align Eight ∷ SeqWords Eight Eight 0 ∷ []) ∷ [])
+    ≡ Some (WrongPadding (place_of 0 0) 1)
 unfolding routine_fault step taken taken_within each_place gathered is_done_within is_one
 longs_gap_at_count = refl
 
@@ -120,9 +143,13 @@ longs_gap_at_count = refl
 
 -- two octets and six more in an array; a long, an unsigned long and three longs in an array; a long long, a short, a string, a long
 abbrev mixed : List Node
-mixed = nodes.Octet ∷ nodes.Integer Four true ∷ nodes.Integer Four false ∷ nodes.Integer Eight true ∷ nodes.Integer Two true ∷ nodes.Text 0 ∷ nodes.Array 0 6 ∷ nodes.Array 1 3 ∷ nodes.Struct (0 ∷ 0 ∷ 6 ∷ 1 ∷ 2 ∷ 7 ∷ 3 ∷ 4 ∷ 5 ∷ 1 ∷ []) ∷ []
+mixed = nodes.Octet ∷ nodes.Integer Four true ∷ nodes.Integer Four false ∷ nodes.Integer Eight true
+    ∷ nodes.Integer Two true ∷ nodes.Text 0 ∷ nodes.Array 0 6 ∷ nodes.Array 1 3
+    ∷ nodes.Struct (0 ∷ 0 ∷ 6 ∷ 1 ∷ 2 ∷ 7 ∷ 3 ∷ 4 ∷ 5 ∷ 1 ∷ []) ∷ []
 
-mixed_runs : program_fault 0 mixed (free 8 (Octets 8 ∷ Align Four ∷ Words Four 5 ∷ Align Eight ∷ Words Eight 1 ∷ Words Two 1 ∷ Align Four ∷ Text 0 ∷ Align Four ∷ Words Four 1 ∷ []) ∷ []) ≡ None
+mixed_runs : program_fault 0 mixed
+    (free 8 (Octets 8 ∷ Align Four ∷ Words Four 5 ∷ Align Eight ∷ Words Eight 1 ∷ Words Two 1 ∷ Align Four ∷ Text 0
+    ∷ Align Four ∷ Words Four 1 ∷ []) ∷ []) ≡ None
 unfolding routine_fault step taken taken_within each_place gathered is_done_within
 mixed_runs = refl
 
@@ -132,9 +159,11 @@ mixed_run_too_long = refl
 
 -- a short, an unsigned short, a long, an octet and a character
 abbrev pairs : List Node
-pairs = nodes.Integer Two true ∷ nodes.Integer Two false ∷ nodes.Integer Four true ∷ nodes.Octet ∷ nodes.Char ∷ nodes.Struct (0 ∷ 1 ∷ 2 ∷ 3 ∷ 4 ∷ []) ∷ []
+pairs = nodes.Integer Two true ∷ nodes.Integer Two false ∷ nodes.Integer Four true ∷ nodes.Octet ∷ nodes.Char
+    ∷ nodes.Struct (0 ∷ 1 ∷ 2 ∷ 3 ∷ 4 ∷ []) ∷ []
 
-pairs_joined : joined_code pairs (nodes.Struct (0 ∷ 1 ∷ 2 ∷ 3 ∷ 4 ∷ [])) ≡ Align Two ∷ Words Two 2 ∷ Align Four ∷ Words Four 1 ∷ Octets 2 ∷ []
+pairs_joined : joined_code pairs (nodes.Struct (0 ∷ 1 ∷ 2 ∷ 3 ∷ 4 ∷ [])) ≡ Align Two ∷ Words Two 2 ∷ Align Four
+    ∷ Words Four 1 ∷ Octets 2 ∷ []
 pairs_joined = refl
 
 pairs_pass : program_fault 0 pairs (joined_program pairs) ≡ None
@@ -154,7 +183,8 @@ abbrev tree_code : List Instr
 tree_code = Octets 1 ∷ Align Four ∷ SeqOf 0 One 0 ∷ Words Four 1 ∷ []
 
 -- if its elements may end everywhere a gap is due behind them
-tree_gap : program_fault 0 tree (free 2 (Octets 1 ∷ Align Four ∷ SeqOf 0 One 0 ∷ Align Four ∷ Words Four 1 ∷ []) ∷ []) ≡ None
+tree_gap : program_fault 0 tree (free 2 (Octets 1 ∷ Align Four ∷ SeqOf 0 One 0 ∷ Align Four ∷ Words Four 1 ∷ []) ∷ [])
+    ≡ None
 unfolding routine_fault step taken taken_within each_place gathered is_done_within closure lead_within
 tree_gap = refl
 
@@ -183,35 +213,64 @@ records = nodes.Integer Eight true ∷ nodes.Integer Four true ∷ nodes.Struct 
 
 -- the structure, wherever it starts
 abbrev record_routine : List ℕ → Routine
-record_routine exits = record { node = 2; entry = 255; exits = exits; rank = 0; code = Align Eight ∷ Words Eight 1 ∷ Words Four 2 ∷ [] }
+record_routine exits = record {
+  node = 2;
+  entry = 255;
+  exits = exits;
+  rank = 0;
+  code =
+      Align Eight ∷ Words Eight 1 ∷ Words Four 2 ∷ [];
+}
 
 -- the structure from a multiple of 8
 abbrev element_routine : Routine
-element_routine = record { node = 2; entry = 0x01; exits = 0x01 ∷ 0 ∷ 0 ∷ 0 ∷ 0 ∷ 0 ∷ 0 ∷ 0 ∷ []; rank = 0; code = Words Eight 1 ∷ Words Four 2 ∷ [] }
+element_routine = record {
+  node = 2;
+  entry = 0x01;
+  exits = 0x01 ∷ 0 ∷ 0 ∷ 0 ∷ 0 ∷ 0 ∷ 0 ∷ 0 ∷ [];
+  rank = 0;
+  code =
+      Words Eight 1 ∷ Words Four 2 ∷ [];
+}
 
 abbrev records_routine : Instr → Routine
-records_routine elements = record { node = 3; entry = 255; exits = 0x11 ∷ 0x01 ∷ 0x01 ∷ 0x01 ∷ 0x01 ∷ 0x11 ∷ 0x11 ∷ 0x11 ∷ []; rank = 0; code = Align Four ∷ elements ∷ [] }
+records_routine elements =
+    record {
+      node = 3;
+      entry = 255;
+      exits = 0x11 ∷ 0x01 ∷ 0x01 ∷ 0x01 ∷ 0x01 ∷ 0x11 ∷ 0x11 ∷ 0x11 ∷ [];
+      rank = 0;
+      code =
+          Align Four ∷ elements ∷ [];
+    }
 
-records_whole : program_fault 0 records (record_routine (replicate 8 0x01) ∷ records_routine (SeqOf 0 Eight 2) ∷ element_routine ∷ []) ≡ None
+records_whole : program_fault 0 records
+    (record_routine (replicate 8 0x01) ∷ records_routine (SeqOf 0 Eight 2) ∷ element_routine ∷ []) ≡ None
 unfolding routine_fault step taken taken_within each_place gathered is_done_within closure lead_within
 records_whole = refl
 
-records_exit : program_fault 0 records (record_routine (0x01 ∷ 0x01 ∷ 0x01 ∷ 0x02 ∷ 0x01 ∷ 0x01 ∷ 0x01 ∷ 0x01 ∷ []) ∷ records_routine (SeqOf 0 Eight 2) ∷ element_routine ∷ []) ≡ Some (ExitsTooSmall (place_of 0 0) 3)
+records_exit : program_fault 0 records
+    (record_routine (0x01 ∷ 0x01 ∷ 0x01 ∷ 0x02 ∷ 0x01 ∷ 0x01 ∷ 0x01 ∷ 0x01 ∷ []) ∷ records_routine (SeqOf 0 Eight 2)
+    ∷ element_routine ∷ []) ≡ Some (ExitsTooSmall (place_of 0 0) 3)
 unfolding routine_fault step taken taken_within each_place gathered is_done_within closure lead_within
 records_exit = refl
 
-records_no_gap : program_fault 0 records (record_routine (replicate 8 0x01) ∷ records_routine (SeqOf 0 One 2) ∷ element_routine ∷ []) ≡ Some (EntryOutside (place_of 0 1) 1)
+records_no_gap : program_fault 0 records
+    (record_routine (replicate 8 0x01) ∷ records_routine (SeqOf 0 One 2) ∷ element_routine ∷ [])
+    ≡ Some (EntryOutside (place_of 0 1) 1)
 unfolding routine_fault step taken taken_within each_place gathered is_done_within closure lead_within
 records_no_gap = refl
 
 -- ---- programs that deceive
 
 -- an enumeration of 3
-one_more_enumerator : program_fault 0 (nodes.Enum 3 ∷ []) (free 0 (Align Four ∷ EnumWord 4 ∷ []) ∷ []) ≡ Some (WrongWork (place_of 0 0) 1)
+one_more_enumerator : program_fault 0 (nodes.Enum 3 ∷ []) (free 0 (Align Four ∷ EnumWord 4 ∷ []) ∷ [])
+    ≡ Some (WrongWork (place_of 0 0) 1)
 unfolding routine_fault step taken taken_within each_place gathered is_done_within
 one_more_enumerator = refl
 
-octet_as_boolean : program_fault 0 (nodes.Boolean ∷ []) (free 0 (Octets 1 ∷ []) ∷ []) ≡ Some (WrongWork (place_of 0 0) 0)
+octet_as_boolean : program_fault 0 (nodes.Boolean ∷ []) (free 0 (Octets 1 ∷ []) ∷ [])
+    ≡ Some (WrongWork (place_of 0 0) 0)
 unfolding routine_fault step taken taken_within each_place gathered is_done_within
 octet_as_boolean = refl
 
@@ -222,31 +281,37 @@ maybe = nodes.Boolean ∷ nodes.Integer Two true ∷ nodes.Union 0 ((pos 1, 1) �
 abbrev maybe_short : Routine
 maybe_short = free 1 (Align Two ∷ Words Two 1 ∷ [])
 
-maybe_default : program_fault 0 maybe (free 2 (Switch discs.Boolean ((pos 1, 1) ∷ []) (Some 1) ∷ []) ∷ maybe_short ∷ []) ≡ Some (WrongWork (place_of 0 0) 0)
+maybe_default : program_fault 0 maybe (free 2 (Switch discs.Boolean ((pos 1, 1) ∷ []) (Some 1) ∷ []) ∷ maybe_short ∷ [])
+    ≡ Some (WrongWork (place_of 0 0) 0)
 unfolding routine_fault step taken taken_within each_place gathered is_done_within
 maybe_default = refl
 
-maybe_whole : program_fault 0 maybe (free 2 (Switch discs.Boolean ((pos 1, 1) ∷ []) None ∷ []) ∷ maybe_short ∷ []) ≡ None
+maybe_whole : program_fault 0 maybe (free 2 (Switch discs.Boolean ((pos 1, 1) ∷ []) None ∷ []) ∷ maybe_short ∷ [])
+    ≡ None
 unfolding routine_fault step taken taken_within each_place gathered is_done_within lead_within
 maybe_whole = refl
 
 -- a sequence of octets of at most 4
-octets_without_bound : program_fault 0 (nodes.Octet ∷ nodes.Seq 0 4 ∷ []) (free 1 (Align Four ∷ SeqOctets 0 ∷ []) ∷ []) ≡ Some (WrongWork (place_of 0 0) 1)
+octets_without_bound : program_fault 0 (nodes.Octet ∷ nodes.Seq 0 4 ∷ []) (free 1 (Align Four ∷ SeqOctets 0 ∷ []) ∷ [])
+    ≡ Some (WrongWork (place_of 0 0) 1)
 unfolding routine_fault step taken taken_within each_place gathered is_done_within is_one
 octets_without_bound = refl
 
 -- two words for a number and an enumerator
-enum_as_word : program_fault 0 (nodes.Integer Four false ∷ nodes.Enum 3 ∷ nodes.Struct (0 ∷ 1 ∷ []) ∷ []) (free 2 (Align Four ∷ Words Four 2 ∷ []) ∷ []) ≡ Some (WrongWork (place_of 0 0) 1)
+enum_as_word : program_fault 0 (nodes.Integer Four false ∷ nodes.Enum 3 ∷ nodes.Struct (0 ∷ 1 ∷ []) ∷ [])
+    (free 2 (Align Four ∷ Words Four 2 ∷ []) ∷ []) ≡ Some (WrongWork (place_of 0 0) 1)
 unfolding routine_fault step taken taken_within each_place gathered is_done_within
 enum_as_word = refl
 
 -- the short at FALSE
-maybe_other_label : program_fault 0 maybe (free 2 (Switch discs.Boolean ((pos 0, 1) ∷ []) None ∷ []) ∷ maybe_short ∷ []) ≡ Some (WrongWork (place_of 0 0) 0)
+maybe_other_label : program_fault 0 maybe (free 2 (Switch discs.Boolean ((pos 0, 1) ∷ []) None ∷ []) ∷ maybe_short ∷ [])
+    ≡ Some (WrongWork (place_of 0 0) 0)
 unfolding routine_fault step taken taken_within each_place gathered is_done_within
 maybe_other_label = refl
 
 -- at TRUE a union instead of the short
-maybe_other_node : program_fault 0 maybe (free 2 (Switch discs.Boolean ((pos 1, 0) ∷ []) None ∷ []) ∷ maybe_short ∷ []) ≡ Some (WrongWork (place_of 0 0) 0)
+maybe_other_node : program_fault 0 maybe (free 2 (Switch discs.Boolean ((pos 1, 0) ∷ []) None ∷ []) ∷ maybe_short ∷ [])
+    ≡ Some (WrongWork (place_of 0 0) 0)
 unfolding routine_fault step taken taken_within each_place gathered is_done_within
 maybe_other_node = refl
 
@@ -264,7 +329,9 @@ abbrev either : List Node
 either = nodes.Boolean ∷ nodes.Octet ∷ nodes.Union 0 ((pos 0, 1) ∷ (pos 1, 1) ∷ []) None ∷ []
 
 -- a member follows always
-either_ends : program_fault 0 either (ending 2 (further 2) (Switch discs.Boolean ((pos 0, 1) ∷ (pos 1, 1) ∷ []) None ∷ []) ∷ ending 1 (further 1) (Octets 1 ∷ []) ∷ []) ≡ None
+either_ends : program_fault 0 either
+    (ending 2 (further 2) (Switch discs.Boolean ((pos 0, 1) ∷ (pos 1, 1) ∷ []) None ∷ [])
+    ∷ ending 1 (further 1) (Octets 1 ∷ []) ∷ []) ≡ None
 unfolding routine_fault step taken taken_within each_place gathered is_done_within
 either_ends = refl
 
@@ -273,7 +340,9 @@ abbrev one_of_two : List Node
 one_of_two = nodes.Boolean ∷ nodes.Octet ∷ nodes.Union 0 ((pos 1, 1) ∷ []) None ∷ []
 
 -- at FALSE it ends behind the discriminator
-no_member_ends : program_fault 0 one_of_two (ending 2 (further 2) (Switch discs.Boolean ((pos 1, 1) ∷ []) None ∷ []) ∷ ending 1 (further 1) (Octets 1 ∷ []) ∷ []) ≡ Some (ExitsTooSmall (place_of 0 0) 0)
+no_member_ends : program_fault 0 one_of_two
+    (ending 2 (further 2) (Switch discs.Boolean ((pos 1, 1) ∷ []) None ∷ []) ∷ ending 1 (further 1) (Octets 1 ∷ [])
+    ∷ []) ≡ Some (ExitsTooSmall (place_of 0 0) 0)
 unfolding routine_fault step taken taken_within each_place gathered is_done_within
 no_member_ends = refl
 
@@ -281,17 +350,21 @@ no_member_ends = refl
 abbrev five : List Node
 five = nodes.Octet ∷ nodes.Array 0 5 ∷ []
 
-five_times : program_fault 0 five (ending 1 (further 5) (Times 5 1 ∷ []) ∷ ending 0 (further 1) (Octets 1 ∷ []) ∷ []) ≡ None
+five_times : program_fault 0 five (ending 1 (further 5) (Times 5 1 ∷ []) ∷ ending 0 (further 1) (Octets 1 ∷ []) ∷ [])
+    ≡ None
 unfolding routine_fault step taken taken_within each_place gathered is_done_within enters_times times_left lead_within
 five_times = refl
 
 -- as if it were done once
-five_times_once : program_fault 0 five (ending 1 (further 1) (Times 5 1 ∷ []) ∷ ending 0 (further 1) (Octets 1 ∷ []) ∷ []) ≡ Some (ExitsTooSmall (place_of 0 0) 0)
+five_times_once : program_fault 0 five
+    (ending 1 (further 1) (Times 5 1 ∷ []) ∷ ending 0 (further 1) (Octets 1 ∷ []) ∷ [])
+    ≡ Some (ExitsTooSmall (place_of 0 0) 0)
 unfolding routine_fault step taken taken_within each_place gathered is_done_within enters_times times_left lead_within
 five_times_once = refl
 
 -- a text may end anywhere
-text_behind_text : program_fault 0 (nodes.Text 0 ∷ nodes.Struct (0 ∷ 0 ∷ []) ∷ []) (free 1 (Align Four ∷ Text 0 ∷ Text 0 ∷ []) ∷ []) ≡ Some (WrongPadding (place_of 0 0) 2)
+text_behind_text : program_fault 0 (nodes.Text 0 ∷ nodes.Struct (0 ∷ 0 ∷ []) ∷ [])
+    (free 1 (Align Four ∷ Text 0 ∷ Text 0 ∷ []) ∷ []) ≡ Some (WrongPadding (place_of 0 0) 2)
 unfolding routine_fault step taken taken_within each_place gathered is_done_within
 text_behind_text = refl
 
@@ -299,10 +372,12 @@ text_behind_text = refl
 
 -- an enumeration, an octet, a string, an array, a sequence, a union, a frame of members and an empty one
 abbrev kinds : List Node
-kinds = nodes.Enum 3 ∷ nodes.Octet ∷ nodes.Text 0 ∷ nodes.Array 0 4 ∷ nodes.Seq 3 10 ∷ nodes.Union 0 ((pos 0, 1) ∷ (pos 2, 2) ∷ []) None ∷ nodes.Frame (4 ∷ 5 ∷ []) ∷ nodes.Frame [] ∷ []
+kinds = nodes.Enum 3 ∷ nodes.Octet ∷ nodes.Text 0 ∷ nodes.Array 0 4 ∷ nodes.Seq 3 10
+    ∷ nodes.Union 0 ((pos 0, 1) ∷ (pos 2, 2) ∷ []) None ∷ nodes.Frame (4 ∷ 5 ∷ []) ∷ nodes.Frame [] ∷ []
 
 kinds_pass : program_fault 0 kinds (plain_program kinds) ≡ None
-unfolding routine_fault step taken taken_within each_place gathered is_done_within closure enters_times times_left lead_within
+unfolding routine_fault step taken taken_within each_place gathered is_done_within closure enters_times times_left
+    lead_within
 kinds_pass = refl
 
 kinds_named : name_fault (plain_program kinds) 7 ≡ None

@@ -29,27 +29,34 @@ late_either true last t far low below = low
 late_either false last t far low below = below
 
 -- one base more
-pub features_based : (es : List Entry) (inner : ℕ) (base : Base) → features_of (with_base es inner base) ≡ with_base (features_of es) inner base
+pub features_based : (es : List Entry) (inner : ℕ) (base : Base)
+    → features_of (with_base es inner base) ≡ with_base (features_of es) inner base
 features_based es zero base = refl
 features_based es (suc e) base = by (slice_get es e) refl
   where
-    there : (o : Option Entry) → slice_get es e ≡ o → entry_with_base (features_of es) e base (option_map as_feature o) ≡ with_base (features_of es) (suc e) base
-    there o is = sym (ap (entry_with_base (features_of es) e base) (slice_get-map as_feature es e ∙ ap (option_map as_feature) is))
+    there : (o : Option Entry) → slice_get es e ≡ o → entry_with_base (features_of es) e base (option_map as_feature o)
+        ≡ with_base (features_of es) (suc e) base
+    there o is = sym (ap (entry_with_base (features_of es) e base)
+        (slice_get-map as_feature es e ∙ ap (option_map as_feature) is))
 
-    by : (o : Option Entry) → slice_get es e ≡ o → features_of (with_base es (suc e) base) ≡ with_base (features_of es) (suc e) base
+    by : (o : Option Entry) → slice_get es e ≡ o → features_of (with_base es (suc e) base)
+        ≡ with_base (features_of es) (suc e) base
     by None is = ap (λ o. features_of (entry_with_base es e base o)) is ∙ there None is
     by (Some x) is =
-        ap (λ o. features_of (entry_with_base es e base o)) is ∙ map_changed as_feature es e (record x { bases = x.bases ++ base ∷ [] }) ∙ there (Some x) is
+        ap (λ o. features_of (entry_with_base es e base o)) is
+        ∙ map_changed as_feature es e (record x { bases = x.bases ++ base ∷ [] }) ∙ there (Some x) is
 
 pub as_many : (es : List Entry) → length (features_of es) ≡ length es
 as_many es = length-map es as_feature
 
 -- ---- kept apart from the first base on
 
-pub are_apart : (all : List Entry) (b : Bool) (features : List Entry) → b ≡ true → AreFeatures all b features → features ≡ features_of all
+pub are_apart : (all : List Entry) (b : Bool) (features : List Entry) → b ≡ true → AreFeatures all b features
+    → features ≡ features_of all
 are_apart all true features is kept = kept
 are_apart all false features is kept = cc
 
-pub are_bare : (all : List Entry) (b : Bool) (features : List Entry) → b ≡ false → AreFeatures all b features → HaveNoBases all
+pub are_bare : (all : List Entry) (b : Bool) (features : List Entry) → b ≡ false → AreFeatures all b features
+    → HaveNoBases all
 are_bare all true features is kept = cc
 are_bare all false features is kept = kept

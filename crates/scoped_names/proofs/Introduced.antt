@@ -29,7 +29,8 @@ use Rattle.scoped_names.proofs.Introducing.{Adds, Does, Grows, Holds, IsKnown, K
 
 -- ---- pragmas
 
-prefix_does : (st next : State) (scope : ℕ) (text : List ℕ) (here : At) → prefix_set st scope text here ≡ Ok next → Does st [] next
+prefix_does : (st next : State) (scope : ℕ) (text : List ℕ) (here : At) → prefix_set st scope text here ≡ Ok next
+    → Does st [] next
 prefix_does st next zero text here h =
     let set : State = record st { prefix = text } in
     let is : set ≡ next = cc in
@@ -40,9 +41,12 @@ said_does : (st next : State) (l : Leaf) (o : Option Said) → said_read st l o 
 said_does st next l None h = does_none st next cc
 said_does st next l (Some (SetsPrefix text)) h = prefix_does st next st.scope text (at l) h
 said_does st next l (Some (Gives name given)) h =
-    let (e, finds, h1) = then_ok (found_at st.entries (at l) (identifiers_see st.entries l.number st.scope (begins_at_root name) (words name)))
-    (λ e. given_once st.given e given (at l) (pragma_for st.given e) >> λ ps. let r : StateOrFault = Ok (record st { given = ps }) in r) next h in
-    let (ps, gives, h2) = then_ok (given_once st.given e given (at l) (pragma_for st.given e)) (λ ps. let r : StateOrFault = Ok (record st { given = ps }) in r) next h1 in
+    let (e, finds, h1) = then_ok
+    (found_at st.entries (at l) (identifiers_see st.entries l.number st.scope (begins_at_root name) (words name)))
+    (λ e. given_once st.given e given (at l) (pragma_for st.given e) >> λ ps. let r : StateOrFault =
+    Ok (record st { given = ps }) in r) next h in
+    let (ps, gives, h2) = then_ok (given_once st.given e given (at l) (pragma_for st.given e))
+    (λ ps. let r : StateOrFault = Ok (record st { given = ps }) in r) next h1 in
     let more : State = record st { given = ps } in
     let is : more ≡ next = cc in
     subst (Does st []) is (record { adds = adds_none (known st); scope = refl })
@@ -55,10 +59,13 @@ IsFlat (Enters l) = ⊥
 IsFlat Leaves = ⊥
 IsFlat _ = Unit {0}
 
-enum_does : (st next : State) (l : Leaf) → step_read st (DeclaresEnum l) ≡ Ok next → Does st (Stands st.scope l Kinds.Enum ∷ []) next
+enum_does : (st next : State) (l : Leaf) → step_read st (DeclaresEnum l) ≡ Ok next
+    → Does st (Stands st.scope l Kinds.Enum ∷ []) next
 enum_does st next l h =
     let m = enum_meant (length st.entries) l in
-    let (mid, declares, rest) = then_ok (declared_as m st l) (λ next. let r : StateOrFault = Ok (record next { enumeration = length st.entries }) in r) next h in
+    let (mid, declares, rest) =
+    then_ok (declared_as m st l) (λ next. let r : StateOrFault =
+    Ok (record next { enumeration = length st.entries }) in r) next h in
     let does = declared_does m st mid l declares in
     let last : State = record mid { enumeration = length st.entries } in
     let is : last ≡ next = cc in
@@ -67,14 +74,17 @@ enum_does st next l h =
 flat_does : (st next : State) (s : Step) → IsFlat s → step_read st s ≡ Ok next → Does st (introduced_by st.scope s) next
 flat_does st next (Declares kind l) flat h = declared_does (plain_meant l.number kind) st next l h
 flat_does st next (DeclaresEnum l) flat h = enum_does st next l h
-flat_does st next (DeclaresEnumerator l) flat h = declared_does (enumerator_meant st.enumeration (length st.entries) l) st next l h
+flat_does st next (DeclaresEnumerator l) flat h =
+    declared_does (enumerator_meant st.enumeration (length st.entries) l) st next l h
 flat_does st next (DeclaresTypedef t d) flat h = declared_does (typedef_meant (type_kind st t) d) st next d.identifier h
 flat_does st next (DeclaresConst c) flat h =
-    let (worth, is, rest) = then_ok (value_of_type (const_type_kind st.entries st.scope c.const_type) st.entries st.scope c.value.expr)
+    let (worth, is, rest) = then_ok
+    (value_of_type (const_type_kind st.entries st.scope c.const_type) st.entries st.scope c.value.expr)
     (λ worth. declared_as (const_meant c worth) st c.identifier) next h in
     declared_does (const_meant c worth) st next c.identifier rest
 flat_does st next (DeclaresFeature kind l) flat h =
-    let (u, free, rest) = then_ok (free_of st.entries l (inherited (features_of st.entries) l.number st.scope (word l))) (λ u. declared_plain kind st l) next h in
+    let (u, free, rest) = then_ok (free_of st.entries l (inherited (features_of st.entries) l.number st.scope (word l)))
+    (λ u. declared_plain kind st l) next h in
     declared_does (plain_meant l.number kind) st next l rest
 flat_does st next (HasMember l) flat h = member_does st next l h
 flat_does st next (HasBase l name) flat h = base_does st next (scope_of st.entries st.scope l) name h
@@ -108,7 +118,8 @@ steps_grow st next (s ∷ steps) h =
     let (mid, first, rest) = then_ok (step_read st s) (λ x. steps_read x steps) next h in
     grows_on (known st) (known mid) (known next) (step_grows st mid s first) (steps_grow mid next steps rest)
 
-pub read_append : (st next : State) (xs ys : List Step) → steps_read st (xs ++ ys) ≡ Ok next → (mid : State) × (steps_read st xs ≡ Ok mid) × (steps_read mid ys ≡ Ok next)
+pub read_append : (st next : State) (xs ys : List Step) → steps_read st (xs ++ ys) ≡ Ok next
+    → (mid : State) × (steps_read st xs ≡ Ok mid) × (steps_read mid ys ≡ Ok next)
 read_append st next [] ys h = (st, refl, h)
 read_append st next (x ∷ xs) ys h =
     let (one, first, rest) = then_ok (step_read st x) (λ s. steps_read s (xs ++ ys)) next h in
@@ -119,9 +130,11 @@ read_append st next (x ∷ xs) ys h =
 record Reads (es : List Entry) (st : State) (xs : List Step) (next : State) : Type 0 where
   adds : Adds (known st) (introduced es st.scope xs) (known next)
   scope : next.scope ≡ st.scope
-  walks : (rest : List Step) → introduced es st.scope (xs ++ rest) ≡ introduced es st.scope xs ++ introduced es st.scope rest
+  walks : (rest : List Step) → introduced es st.scope (xs ++ rest)
+      ≡ introduced es st.scope xs ++ introduced es st.scope rest
 
-one_reads : (es : List Entry) (st next : State) (s : Step) → IsFlat s → step_read st s ≡ Ok next → Reads es st (s ∷ []) next
+one_reads : (es : List Entry) (st next : State) (s : Step) → IsFlat s → step_read st s ≡ Ok next
+    → Reads es st (s ∷ []) next
 one_reads es st next s flat h =
     let does = flat_does st next s flat h in
     let none = append-nil (introduced_by st.scope s) in
@@ -133,16 +146,20 @@ one_reads es st next s flat h =
           ∙ ap (λ zs. zs ++ introduced es st.scope rest) (sym none);
     }
 
-both_read : (es : List Entry) (st mid next : State) (xs ys : List Step) → Reads es st xs mid → Reads es mid ys next → Reads es st (xs ++ ys) next
+both_read : (es : List Entry) (st mid next : State) (xs ys : List Step) → Reads es st xs mid → Reads es mid ys next
+    → Reads es st (xs ++ ys) next
 both_read es st mid next xs ys a b =
     let of_first = introduced es st.scope xs in
     let behind = subst (λ k. Adds (known mid) (introduced es k ys) (known next)) a.scope b.adds in
-    let walks = subst (λ k. (rest : List Step) → introduced es k (ys ++ rest) ≡ introduced es k ys ++ introduced es k rest) a.scope b.walks in
+    let walks = subst (λ k. (rest : List Step) → introduced es k (ys ++ rest)
+    ≡ introduced es k ys ++ introduced es k rest) a.scope b.walks in
     record {
-      adds = subst (λ zs. Adds (known st) zs (known next)) (sym (a.walks ys)) (adds_both (known st) (known mid) (known next) of_first (introduced es st.scope ys) a.adds behind);
+      adds = subst (λ zs. Adds (known st) zs (known next)) (sym (a.walks ys))
+          (adds_both (known st) (known mid) (known next) of_first (introduced es st.scope ys) a.adds behind);
       scope = b.scope ∙ a.scope;
       walks = λ rest.
-          ap (introduced es st.scope) (append_assoc xs ys rest) ∙ a.walks (ys ++ rest) ∙ ap (λ zs. of_first ++ zs) (walks rest)
+          ap (introduced es st.scope) (append_assoc xs ys rest) ∙ a.walks (ys ++ rest)
+          ∙ ap (λ zs. of_first ++ zs) (walks rest)
           ∙ sym (append_assoc of_first (introduced es st.scope ys) (introduced es st.scope rest))
           ∙ ap (λ zs. zs ++ introduced es st.scope rest) (sym (a.walks ys));
     }
@@ -155,10 +172,13 @@ HasLeaf st l = (n : ℕ) × (named st.entries st.scope (word l) ≡ Some n)
 
 -- where the identifiers are there, the steps enter only what is there, and leave it
 record Closed (ls : List Leaf) (xs : List Step) : Type 0 where
-  go : (es : List Entry) (st next : State) → steps_read st xs ≡ Ok next → Keeps next.entries es → AllByRecursion (HasLeaf st) ls → Reads es st xs next
+  go : (es : List Entry) (st next : State) → steps_read st xs ≡ Ok next → Keeps next.entries es
+      → AllByRecursion (HasLeaf st) ls → Reads es st xs next
 
-still_there : (st mid : State) → Grows (known st) (known mid) → mid.scope ≡ st.scope → (l : Leaf) → HasLeaf st l → HasLeaf mid l
-still_there st mid grows scope l (n, is) = (n, ap (λ k. named mid.entries k (word l)) scope ∙ grows.names st.scope (word l) n is)
+still_there : (st mid : State) → Grows (known st) (known mid) → mid.scope ≡ st.scope → (l : Leaf) → HasLeaf st l
+    → HasLeaf mid l
+still_there st mid grows scope l (n, is) =
+    (n, ap (λ k. named mid.entries k (word l)) scope ∙ grows.names st.scope (word l) n is)
 
 none : {ls : List Leaf} → Closed ls []
 none = record {
@@ -186,20 +206,24 @@ one s flat = record {
 }
 
 -- steps behind a declaration
-declaring : {ls : List Leaf} {ys : List Step} (s : Step) (l : Leaf) (kind : EntryKind) → IsFlat s → ((scope : ℕ) → introduced_by scope s ≡ Stands scope l kind ∷ [])
+declaring : {ls : List Leaf} {ys : List Step} (s : Step) (l : Leaf) (kind : EntryKind) → IsFlat s
+    → ((scope : ℕ) → introduced_by scope s ≡ Stands scope l kind ∷ [])
     → Closed (l ∷ ls) ys → Closed ls (s ∷ ys)
 declaring {ls} {ys} s l kind flat stands b = record {
   go = λ es st next h later there.
       let (mid, first, rest) = then_ok (step_read st s) (λ x. steps_read x ys) next h in
       let does = flat_does st mid s flat first in
-      let (n, e, is, at_n, kind_is, name_is) = (subst (AllByRecursion (Holds (known mid))) (stands st.scope) does.adds.holds).0 in
+      let (n, e, is, at_n, kind_is, name_is) =
+      (subst (AllByRecursion (Holds (known mid))) (stands st.scope) does.adds.holds).0 in
       let still = all_map (HasLeaf st) (HasLeaf mid) (still_there st mid does.adds.grows does.scope) ls there in
       let behind = b.go es mid next rest later ((n, ap (λ k. named mid.entries k (word l)) does.scope ∙ is), still) in
       both_read es st mid next (s ∷ []) ys (one_reads es st mid s flat first) behind;
 }
 
-pub around_named : (es : List Entry) (scope : ℕ) (name : List ℕ) (n : ℕ) → named es scope name ≡ Some n → around es (suc n) ≡ scope
-around_named es scope name n h = let (e, here, in_scope) = named_entry es scope name n h in ap scope_in here ∙ sym in_scope
+pub around_named : (es : List Entry) (scope : ℕ) (name : List ℕ) (n : ℕ) → named es scope name ≡ Some n
+    → around es (suc n) ≡ scope
+around_named es scope name n h = let (e, here, in_scope) = named_entry es scope name n h in
+    ap scope_in here ∙ sym in_scope
 
 -- steps inside the scope of what is there
 within : {ls : List Leaf} {ys : List Step} (l : Leaf) → Closed [] ys → Closed (l ∷ ls) (Enters l ∷ (ys ++ Leaves ∷ []))
@@ -223,9 +247,11 @@ within {ls} {ys} l b = record {
       let outer : around es inner ≡ st.scope = ap (around es) inner_is ∙ around_named es st.scope (word l) n in_whole in
       subst (Reads es st (Enters l ∷ (ys ++ Leaves ∷ []))) is (record {
         adds = subst (λ zs. Adds (known st) zs (known left)) (sym inside) body.adds;
-        scope = ap (around last.entries) (body.scope ∙ inner_is) ∙ around_named last.entries st.scope (word l) n in_last;
+        scope = ap (around last.entries) (body.scope ∙ inner_is)
+            ∙ around_named last.entries st.scope (word l) n in_last;
         walks = λ rest.
-            ap (λ k. introduced es k ((ys ++ Leaves ∷ []) ++ rest)) inner_of ∙ ap (introduced es inner) (append_assoc ys (Leaves ∷ []) rest)
+            ap (λ k. introduced es k ((ys ++ Leaves ∷ []) ++ rest)) inner_of
+            ∙ ap (introduced es inner) (append_assoc ys (Leaves ∷ []) rest)
             ∙ body.walks (Leaves ∷ rest) ∙ ap (λ k. introduced es inner ys ++ introduced es k rest) outer
             ∙ ap (λ zs. zs ++ introduced es st.scope rest) (sym inside);
       });
@@ -251,22 +277,27 @@ closed (base text id name) = one (HasBase id name) tt
 closed (valued c a) = joined (closed a) (joined (one (IsNew c.identifier) tt) (one (DeclaresConst c) tt))
 closed (declared kind id a) = declaring (Declares kind id) id kind tt (λ scope. refl) (closed a)
 closed (featured kind id a) = declaring (DeclaresFeature kind id) id kind tt (λ scope. refl) (closed a)
-closed (undefined kind id a) = declaring (Declares kind id) id kind tt (λ scope. refl) (joined (one (IsUndefined id) tt) (closed a))
+closed (undefined kind id a) =
+    declaring (Declares kind id) id kind tt (λ scope. refl) (joined (one (IsUndefined id) tt) (closed a))
 closed (inside id a) = within id (closed a)
 closed (defines id a) = joined (one (Defines id) tt) (closed a)
 
 -- ---- a whole specification
 
 whole_adds : (definitions : List Definition) (names : FileNames) → AreNames definitions names
-    → (st : State) × (Adds (known nothing_yet) (introduced names.entries 0 (steps_of definitions)) (known st)) × (st.entries ≡ names.entries)
+    → (st : State) × (Adds (known nothing_yet) (introduced names.entries 0 (steps_of definitions)) (known st))
+    × (st.entries ≡ names.entries)
 whole_adds definitions names h =
-    let (read, reads, is) = then_ok (specification_read definitions) (λ st. let r : Result FileNames NameFault = Ok (file_names st) in r) names h in
-    let (st, steps, rest) = then_ok (steps_read nothing_yet (steps_of definitions)) (λ st. passed st (never_defined (left_open st 0 st.entries))) read reads in
+    let (read, reads, is) = then_ok (specification_read definitions)
+    (λ st. let r : Result FileNames NameFault = Ok (file_names st) in r) names h in
+    let (st, steps, rest) = then_ok (steps_read nothing_yet (steps_of definitions))
+    (λ st. passed st (never_defined (left_open st 0 st.entries))) read reads in
     let same = passed_same st (never_defined (left_open st 0 st.entries)) read rest in
     let whole_is : file_names st ≡ names = ap file_names same ∙ cc in
     let entries : st.entries ≡ names.entries = ap (λ w. w.entries) whole_is in
     let all = closed (all_ask definitions) in
-    let reads = all.go names.entries nothing_yet st steps (λ scope name n there. ap (λ es. named es scope name) (sym entries) ∙ there) tt in
+    let reads = all.go names.entries nothing_yet st steps
+    (λ scope name n there. ap (λ es. named es scope name) (sym entries) ∙ there) tt in
     (st, reads.adds, entries)
 
 -- each identifier is its entry
@@ -280,16 +311,20 @@ pub declared_once : (definitions : List Definition) (names : FileNames) → AreN
 declared_once definitions names h =
     let (st, adds, is) = whole_adds definitions names h in
     let all = introduced names.entries 0 (steps_of definitions) in
-    subst (λ es. AllByRecursion (IsEntry es) all) is (all_map (Holds (known st)) (IsEntry st.entries) (entry_held (known st)) all adds.holds)
+    subst (λ es. AllByRecursion (IsEntry es) all) is
+    (all_map (Holds (known st)) (IsEntry st.entries) (entry_held (known st)) all adds.holds)
 
-pub nothing_else : (definitions : List Definition) (names : FileNames) → AreNames definitions names → (n : ℕ) → n < length names.entries
+pub nothing_else : (definitions : List Definition) (names : FileNames) → AreNames definitions names → (n : ℕ)
+    → n < length names.entries
     → Any (StandsFor names.entries n) (introduced names.entries 0 (steps_of definitions))
 nothing_else definitions names h n lt =
     let (st, adds, is) = whole_adds definitions names h in
     let all = introduced names.entries 0 (steps_of definitions) in
-    subst (λ es. Any (StandsFor es n) all) is (by (known st) all adds (adds.only n (subst (λ es. n < length es) (sym is) lt)))
+    subst (λ es. Any (StandsFor es n) all) is
+    (by (known st) all adds (adds.only n (subst (λ es. n < length es) (sym is) lt)))
   where
-    by : (st : Known) (xs : List Introduction) → Adds (known nothing_yet) xs st → IsKnown (known nothing_yet) xs st n → Any (StandsFor st.entries n) xs
+    by : (st : Known) (xs : List Introduction) → Adds (known nothing_yet) xs st → IsKnown (known nothing_yet) xs st n
+        → Any (StandsFor st.entries n) xs
     by st xs adds (inl before) = absurd (omega arith)
     by st xs adds (inr any) = any
 

@@ -36,11 +36,13 @@ use Rattle.name_table.proofs.Stability.{get_push_last, get_push_low, named_push,
 
 -- ---- lists
 
-all_append : {X : Type 0} (P : X → Type 0) (xs ys : List X) → AllByRecursion P xs → AllByRecursion P ys → AllByRecursion P (xs ++ ys)
+all_append : {X : Type 0} (P : X → Type 0) (xs ys : List X) → AllByRecursion P xs → AllByRecursion P ys
+    → AllByRecursion P (xs ++ ys)
 all_append P [] ys hs ks = ks
 all_append P (x ∷ xs) ys (h, hs) ks = (h, all_append P xs ys hs ks)
 
-pub all_map : {X : Type 0} (P Q : X → Type 0) → ((x : X) → P x → Q x) → (xs : List X) → AllByRecursion P xs → AllByRecursion Q xs
+pub all_map : {X : Type 0} (P Q : X → Type 0) → ((x : X) → P x → Q x) → (xs : List X) → AllByRecursion P xs
+    → AllByRecursion Q xs
 all_map P Q f [] hs = tt
 all_map P Q f (x ∷ xs) (h, hs) = (f x h, all_map P Q f xs hs)
 
@@ -127,7 +129,8 @@ Keeps es fs = (scope : ℕ) (name : List ℕ) (n : ℕ) → named es scope name 
 pub record Grows (st next : Known) : Type 0 where
   pub names : Keeps st.entries next.entries
   pub entries : (n : ℕ) (e : Entry) → slice_get st.entries n ≡ Some e → Stays next.entries n e
-  pub members : (scope : ℕ) (name : List ℕ) → has_member st.members scope name ≡ true → has_member next.members scope name ≡ true
+  pub members : (scope : ℕ) (name : List ℕ) → has_member st.members scope name ≡ true
+      → has_member next.members scope name ≡ true
   pub defined : (scope : ℕ) → has_body st.defined scope ≡ true → has_body next.defined scope ≡ true
 
 kept : (st next : Known) → Grows st next → (x : Introduction) → Holds st x → Holds next x
@@ -184,26 +187,31 @@ still_for es fs keeps n (Stands scope l kind) h = keeps scope (word l) n h
 still_for es fs keeps n (Has scope l) h = h
 still_for es fs keeps n (Body scope) h = h
 
-known_by_both : (st mid next : Known) (xs ys : List Introduction) → Adds st xs mid → Adds mid ys next → (n : ℕ) → IsKnown mid ys next n → IsKnown st (xs ++ ys) next n
+known_by_both : (st mid next : Known) (xs ys : List Introduction) → Adds st xs mid → Adds mid ys next → (n : ℕ)
+    → IsKnown mid ys next n → IsKnown st (xs ++ ys) next n
 known_by_both st mid next xs ys a b n (inr any) = inr (any_right (StandsFor next.entries n) xs ys any)
 known_by_both st mid next xs ys a b n (inl lt) = by (a.only n lt)
   where
     by : IsKnown st xs mid n → IsKnown st (xs ++ ys) next n
     by (inl before) = inl before
     by (inr any) =
-        let still = any_map (StandsFor mid.entries n) (StandsFor next.entries n) (still_for mid.entries next.entries b.grows.names n) xs any in
+        let still = any_map (StandsFor mid.entries n) (StandsFor next.entries n)
+        (still_for mid.entries next.entries b.grows.names n) xs any in
         inr (any_left (StandsFor next.entries n) xs ys still)
 
-pub adds_both : (st mid next : Known) (xs ys : List Introduction) → Adds st xs mid → Adds mid ys next → Adds st (xs ++ ys) next
+pub adds_both : (st mid next : Known) (xs ys : List Introduction) → Adds st xs mid → Adds mid ys next
+    → Adds st (xs ++ ys) next
 adds_both st mid next xs ys a b = record {
   grows = grows_on st mid next a.grows b.grows;
   holds = all_append (Holds next) xs ys (all_map (Holds mid) (Holds next) (kept mid next b.grows) xs a.holds) b.holds;
-  apart = distinct_append clashes xs ys a.apart b.apart (all_map (Holds mid) (λ x. AllByRecursion (λ y. clashes x y ≡ false) ys) b.new xs a.holds);
+  apart = distinct_append clashes xs ys a.apart b.apart
+      (all_map (Holds mid) (λ x. AllByRecursion (λ y. clashes x y ≡ false) ys) b.new xs a.holds);
   new = λ x h. all_append (λ y. clashes x y ≡ false) xs ys (a.new x h) (b.new x (kept st mid a.grows x h));
   only = λ n lt. known_by_both st mid next xs ys a b n (b.only n lt);
 }
 
-adds_one : (st next : Known) (y : Introduction) → Grows st next → Holds next y → ((x : Introduction) → Holds st x → clashes x y ≡ false)
+adds_one : (st next : Known) (y : Introduction) → Grows st next → Holds next y
+    → ((x : Introduction) → Holds st x → clashes x y ≡ false)
     → ((n : ℕ) → n < length next.entries → (n < length st.entries) ⊎ StandsFor next.entries n y) → Adds st (y ∷ []) next
 adds_one st next y g h new only = record {
   grows = g;
@@ -228,27 +236,47 @@ does_none st next is = subst (Does st []) is (record { adds = adds_none (known s
 -- ---- names
 
 blank : Entry
-blank = record { scope = 0; name = []; token = 0; kind = Entries.Module; bases = []; worth = None; stands_for = None; line = 0; identifier = 0; prefix = [] }
+blank = record {
+  scope = 0;
+  name = [];
+  token = 0;
+  kind = Entries.Module;
+  bases = [];
+  worth = None;
+  stands_for =
+      None;
+  line = 0;
+  identifier = 0;
+  prefix = [];
+}
 
 -- the entry that a name of a scope is
-pub named_entry : (es : List Entry) (scope : ℕ) (name : List ℕ) (n : ℕ) → named es scope name ≡ Some n → (e : Entry) × (slice_get es n ≡ Some e) × (scope ≡ e.scope)
+pub named_entry : (es : List Entry) (scope : ℕ) (name : List ℕ) (n : ℕ) → named es scope name ≡ Some n
+    → (e : Entry) × (slice_get es n ≡ Some e) × (scope ≡ e.scope)
 named_entry es scope name n h =
     let there = position-Some (is_named scope name) es n blank h in
-    let e = get_or es n blank in
-    (e, slice_get-get_or es n blank there.0, eqb-true scope e.scope (and_parts (nat_eq scope e.scope) (same_but_for_case name e.name) there.1).0)
+    let e = get_or es n blank in (
+      e,
+      slice_get-get_or es n blank there.0,
+      eqb-true scope e.scope
+          (and_parts (nat_eq scope e.scope) (same_but_for_case name e.name) there.1).0,
+    )
 
 spelled_alike : (a b : List ℕ) → same_but_for_case a b ≡ true → lower a ≡ lower b
 spelled_alike a b h = (bytes_eq-Decides (lower a) (lower b)).0 h
 
-member_alike : (members : List Member) (scope : ℕ) (a b : List ℕ) → lower a ≡ lower b → has_member members scope a ≡ has_member members scope b
+member_alike : (members : List Member) (scope : ℕ) (a b : List ℕ) → lower a ≡ lower b
+    → has_member members scope a ≡ has_member members scope b
 member_alike members scope a b same =
     ap (λ w. list_any (λ m. nat_eq scope m.scope && bytes_eq w (lower m.name)) members) same
 
 pub same_name : (scope : ℕ) (w : List ℕ) → (nat_eq scope scope && same_but_for_case w w) ≡ true
-same_name scope w = ap (λ b. b && same_but_for_case w w) (eq-eqb scope scope refl) ∙ (bytes_eq-Decides (lower w) (lower w)).1 refl
+same_name scope w = ap (λ b. b && same_but_for_case w w) (eq-eqb scope scope refl)
+    ∙ (bytes_eq-Decides (lower w) (lower w)).1 refl
 
 -- a test of one name in one scope: it fails, or the names are one
-one_name : (scope : ℕ) (l : Leaf) (other : ℕ) (m : Leaf) (rest : Bool) → (scope ≡ other → lower (word l) ≡ lower (word m) → rest ≡ false)
+one_name : (scope : ℕ) (l : Leaf) (other : ℕ) (m : Leaf) (rest : Bool)
+    → (scope ≡ other → lower (word l) ≡ lower (word m) → rest ≡ false)
     → (is_one_name scope l other m && rest) ≡ false
 one_name scope l other m rest fails = by (nat_eq scope other) (same_but_for_case (word l) (word m)) refl refl
   where
@@ -257,7 +285,8 @@ one_name scope l other m rest fails = by (nat_eq scope other) (same_but_for_case
     by true false s n = refl
     by true true s n = fails (eqb-true scope other s) (spelled_alike (word l) (word m) n)
 
-apart_names : (scope : ℕ) (l : Leaf) (other : ℕ) (m : Leaf) → (scope ≡ other → lower (word l) ≡ lower (word m) → ⊥) → is_one_name scope l other m ≡ false
+apart_names : (scope : ℕ) (l : Leaf) (other : ℕ) (m : Leaf) → (scope ≡ other → lower (word l) ≡ lower (word m) → ⊥)
+    → is_one_name scope l other m ≡ false
 apart_names scope l other m differ = by (nat_eq scope other) (same_but_for_case (word l) (word m)) refl refl
   where
     by : (a b : Bool) → nat_eq scope other ≡ a → same_but_for_case (word l) (word m) ≡ b → (a && b) ≡ false
@@ -275,12 +304,14 @@ is_free : (l : Leaf) (taken : Option At) (u : Unit {0}) → free_test l taken �
 is_free l None u h = refl
 is_free l (Some other) u h = absurd cc
 
-no_member : (members : List Member) (scope : ℕ) (name : List ℕ) → member_named members scope name ≡ None → has_member members scope name ≡ false
+no_member : (members : List Member) (scope : ℕ) (name : List ℕ) → member_named members scope name ≡ None
+    → has_member members scope name ≡ false
 no_member [] scope name h = refl
 no_member (m ∷ ms) scope name h = by (nat_eq scope m.scope && same_but_for_case name m.name) (no_member ms scope name) h
   where
     by : (b : Bool) → (member_named ms scope name ≡ None → has_member ms scope name ≡ false)
-        → (let o : Option At = if b then Some m.at else member_named ms scope name in o) ≡ None → (b || has_member ms scope name) ≡ false
+        → (let o : Option At = if b then Some m.at else member_named ms scope name in o) ≡ None
+        → (b || has_member ms scope name) ≡ false
     by true rest h = absurd cc
     by false rest h = rest h
 
@@ -293,7 +324,8 @@ free_of_members : (st : State) (l : Leaf) → has_member st.members st.scope (wo
 free_of_members st l free s k has =
     apart_names s k st.scope l (λ s_is alike.
     let here : has_member st.members st.scope (word l) ≡ true =
-    sym (ap (λ i. has_member st.members i (word l)) s_is) ∙ member_alike st.members s (word l) (word k) (sym alike) ∙ has in
+    sym (ap (λ i. has_member st.members i (word l)) s_is) ∙ member_alike st.members s (word l) (word k) (sym alike)
+    ∙ has in
     cc)
 
 -- ---- what a declaration introduces
@@ -302,10 +334,12 @@ free_of_members st l free s k has =
 pub appears : (kind : EntryKind) (st next : State) (l : Leaf) (e : Entry) → reappears kind st l e ≡ Ok next
     → ((may_reappear kind e.kind && bytes_eq (word l) e.name) ≡ true) × (st ≡ next)
 appears kind st next l e h =
-    by (may_reappear kind e.kind && bytes_eq (word l) e.name) (keeps_prefix kind && not (bytes_eq st.prefix e.prefix)) refl h
+    by (may_reappear kind e.kind && bytes_eq (word l) e.name) (keeps_prefix kind && not (bytes_eq st.prefix e.prefix))
+    refl h
   where
     by : (a b : Bool) → (may_reappear kind e.kind && bytes_eq (word l) e.name) ≡ a
-        → (let r : StateOrFault = if not a then Err (Collides (at l) (at_entry (Some e))) else if b then Err (PrefixDiffers (at l) (at_entry (Some e))) else Ok st in r) ≡ Ok next
+        → (let r : StateOrFault = if not a then Err (Collides (at l) (at_entry (Some e))) else if b then
+        Err (PrefixDiffers (at l) (at_entry (Some e))) else Ok st in r) ≡ Ok next
         → ((may_reappear kind e.kind && bytes_eq (word l) e.name) ≡ true) × (st ≡ next)
     by false b is h = absurd cc
     by true true is h = absurd cc
@@ -333,7 +367,8 @@ module _ (m : Meaning) (st : State) (l : Leaf) (none : named st.entries st.scope
   grown : Grows (known st) (known (with_declared m st l))
   grown = record {
     names = λ s name n h.
-        named_push st.entries added s name ∙ ap (λ o. or_place o (cond (is_named s name added) (Some (length st.entries)) None)) h;
+        named_push st.entries added s name
+        ∙ ap (λ o. or_place o (cond (is_named s name added) (Some (length st.entries)) None)) h;
     entries = λ n e h. (e, get_push_low st.entries added n (slice_get_within st.entries n e h) ∙ h, refl, refl);
     members = λ s name h. h;
     defined = λ s h. h;
@@ -348,10 +383,13 @@ module _ (m : Meaning) (st : State) (l : Leaf) (none : named st.entries st.scope
   stands : Holds (known (with_declared m st l)) (Stands st.scope l m.kind)
   stands = (length st.entries, added, place, get_push_last st.entries added, refl, refl)
 
-  last_one : (n : ℕ) → n < length (st.entries ++ added ∷ []) → (n < length st.entries) ⊎ (named (st.entries ++ added ∷ []) st.scope (word l) ≡ Some n)
-  last_one n lt = by (below_or_last n (length st.entries) (let all = length-append st.entries (added ∷ []) in omega arith))
+  last_one : (n : ℕ) → n < length (st.entries ++ added ∷ []) → (n < length st.entries)
+      ⊎ (named (st.entries ++ added ∷ []) st.scope (word l) ≡ Some n)
+  last_one n lt = by (below_or_last n (length st.entries) (let all = length-append st.entries (added ∷ []) in
+      omega arith))
     where
-      by : (n < length st.entries) ⊎ (length st.entries ≡ n) → (n < length st.entries) ⊎ (named (st.entries ++ added ∷ []) st.scope (word l) ≡ Some n)
+      by : (n < length st.entries) ⊎ (length st.entries ≡ n) → (n < length st.entries)
+          ⊎ (named (st.entries ++ added ∷ []) st.scope (word l) ≡ Some n)
       by (inl before) = inl before
       by (inr is) = inr (place ∙ ap Some is)
 
@@ -367,8 +405,10 @@ module _ (m : Meaning) (st next : State) (l : Leaf) (free : has_member st.member
   no_clash (Stands s k kind) (n, e, there, here, kind_is, name_is) =
       one_name s k st.scope l (not (may_reappear m.kind kind && bytes_eq (word l) (word k))) (λ s_is alike.
       let place : named st.entries st.scope (word l) ≡ Some n =
-      sym (ap (λ i. named st.entries i (word l)) s_is) ∙ named_case st.entries (word l) (word k) (sym alike) s ∙ there in
-      ap not (sym (ap (λ j. may_reappear m.kind j && bytes_eq (word l) e.name) kind_is ∙ ap (λ w. may_reappear m.kind kind && bytes_eq (word l) w) name_is)
+      sym (ap (λ i. named st.entries i (word l)) s_is) ∙ named_case st.entries (word l) (word k) (sym alike) s
+      ∙ there in
+      ap not (sym (ap (λ j. may_reappear m.kind j && bytes_eq (word l) e.name) kind_is
+      ∙ ap (λ w. may_reappear m.kind kind && bytes_eq (word l) w) name_is)
       ∙ (again n e place here).0))
   no_clash (Has s k) has = free_of_members st l free s k has
   no_clash (Body s) has = refl
@@ -378,9 +418,12 @@ module _ (m : Meaning) (st next : State) (l : Leaf) (free : has_member st.member
     where
       by : (o : Option ℕ) → named st.entries st.scope (word l) ≡ o → Does st (Stands st.scope l m.kind ∷ []) next
       by None none =
-          let is : with_declared m st l ≡ next = (let r : declares_over m st l None ≡ Ok next = sym (ap (λ o. declares_over m st l (entry_in st.entries o)) none) ∙ h in cc) in
+          let is : with_declared m st l ≡ next =
+          (let r : declares_over m st l None ≡ Ok next =
+          sym (ap (λ o. declares_over m st l (entry_in st.entries o)) none) ∙ h in cc) in
           subst (Does st (Stands st.scope l m.kind ∷ [])) is (record {
-            adds = adds_one (known st) (known (with_declared m st l)) (Stands st.scope l m.kind) (grown m st l none) (stands m st l none) no_clash (last_one m st l none);
+            adds = adds_one (known st) (known (with_declared m st l)) (Stands st.scope l m.kind) (grown m st l none)
+                (stands m st l none) no_clash (last_one m st l none);
             scope = refl;
           })
       by (Some n) there =
@@ -390,27 +433,34 @@ module _ (m : Meaning) (st next : State) (l : Leaf) (free : has_member st.member
           let holds : Holds (known st) (Stands st.scope l m.kind) =
           (n, e, there, here, one_kind m.kind e.kind two.0, sym ((bytes_eq-Decides (word l) e.name).0 two.1)) in
           subst (Does st (Stands st.scope l m.kind ∷ [])) same (record {
-            adds = adds_one (known st) (known st) (Stands st.scope l m.kind) (grows_none (known st)) holds no_clash (λ n lt. inl lt);
+            adds = adds_one (known st) (known st) (Stands st.scope l m.kind) (grows_none (known st)) holds no_clash
+                (λ n lt. inl lt);
             scope = refl;
           })
 
-pub declared_does : (m : Meaning) (st next : State) (l : Leaf) → declared_as m st l ≡ Ok next → Does st (Stands st.scope l m.kind ∷ []) next
+pub declared_does : (m : Meaning) (st next : State) (l : Leaf) → declared_as m st l ≡ Ok next
+    → Does st (Stands st.scope l m.kind ∷ []) next
 declared_does m st next l h =
-    let (u, test, rest) = then_ok (free_test l (taken_by st (word l))) (λ u. declares_over m st l (entry_in st.entries (named st.entries st.scope (word l)))) next h in
+    let (u, test, rest) = then_ok (free_test l (taken_by st (word l)))
+    (λ u. declares_over m st l (entry_in st.entries (named st.entries st.scope (word l)))) next h in
     declares_does m st next l (untaken st (word l) (is_free l (taken_by st (word l)) u test)) rest
 
 -- ---- members
 
-entry_none : (es : List Entry) (o : Option ℕ) → ((n : ℕ) → o ≡ Some n → (e : Entry) × (slice_get es n ≡ Some e)) → entry_at es o ≡ None → o ≡ None
+entry_none : (es : List Entry) (o : Option ℕ) → ((n : ℕ) → o ≡ Some n → (e : Entry) × (slice_get es n ≡ Some e))
+    → entry_at es o ≡ None → o ≡ None
 entry_none es None there h = refl
 entry_none es (Some n) there h = let (e, here) = there n refl in let some = ap at_entry here in absurd cc
 
 pub member_does : (st next : State) (l : Leaf) → member_added st l ≡ Ok next → Does st (Has st.scope l ∷ []) next
 member_does st next l h =
-    let more : State = record st { members = st.members ++ record { scope = st.scope; name = word l; at = at l } ∷ [] } in
+    let more : State = record st { members = st.members ++ record { scope = st.scope; name = word l; at = at l } ∷ [] }
+    in
     let (u, test, rest) = then_ok (new_test st l) (λ u. let r : StateOrFault = Ok more in r) next h in
-    let free = or_none (taken_by st (word l)) (entry_at st.entries (named st.entries st.scope (word l))) (is_free l _ u test) in
-    let none = entry_none st.entries (named st.entries st.scope (word l)) (λ n there. let (e, here, in_scope) = named_entry st.entries st.scope (word l) n there in (e, here)) free.1 in
+    let free = or_none (taken_by st (word l)) (entry_at st.entries (named st.entries st.scope (word l)))
+    (is_free l _ u test) in
+    let none = entry_none st.entries (named st.entries st.scope (word l))
+    (λ n there. let (e, here, in_scope) = named_entry st.entries st.scope (word l) n there in (e, here)) free.1 in
     let is : more ≡ next = cc in
     let grows : Grows (known st) (known more) = record {
       names = λ s name n h. h;
@@ -418,26 +468,32 @@ member_does st next l h =
       members = λ s name h. any_longer _ st.members _ h;
       defined = λ s h. h;
     } in
-    let last = any_last (λ m. nat_eq st.scope m.scope && same_but_for_case (word l) m.name) st.members _ (same_name st.scope (word l)) in
+    let last = any_last (λ m. nat_eq st.scope m.scope && same_but_for_case (word l) m.name) st.members _
+    (same_name st.scope (word l)) in
     subst (Does st (Has st.scope l ∷ [])) is (record {
-      adds = adds_one (known st) (known more) (Has st.scope l) grows last (clash (untaken st (word l) free.0) none) (λ n lt. inl lt);
+      adds = adds_one (known st) (known more) (Has st.scope l) grows last (clash (untaken st (word l) free.0) none)
+          (λ n lt. inl lt);
       scope = refl;
     })
   where
-    clash : has_member st.members st.scope (word l) ≡ false → named st.entries st.scope (word l) ≡ None → (x : Introduction) → Holds (known st) x → clashes x (Has st.scope l) ≡ false
+    clash : has_member st.members st.scope (word l) ≡ false → named st.entries st.scope (word l) ≡ None
+        → (x : Introduction) → Holds (known st) x → clashes x (Has st.scope l) ≡ false
     clash free none (Stands s k kind) (n, e, there, here, kind_is, name_is) =
         apart_names s k st.scope l (λ s_is alike.
         none_some (named st.entries st.scope (word l)) n none
-        (sym (ap (λ i. named st.entries i (word l)) s_is) ∙ named_case st.entries (word l) (word k) (sym alike) s ∙ there))
+        (sym (ap (λ i. named st.entries i (word l)) s_is) ∙ named_case st.entries (word l) (word k) (sym alike) s
+        ∙ there))
     clash free none (Has s k) has = free_of_members st l free s k has
     clash free none (Body s) has = refl
 
 -- ---- bodies
 
-undefined_is : (st : State) (scope : ℕ) (l : Leaf) (u : Unit {0}) → undefined_test st scope l ≡ Ok u → has_body st.defined scope ≡ false
+undefined_is : (st : State) (scope : ℕ) (l : Leaf) (u : Unit {0}) → undefined_test st scope l ≡ Ok u
+    → has_body st.defined scope ≡ false
 undefined_is st scope l u passes = by (is_defined st scope) passes
   where
-    by : (b : Bool) → (let t : Test = if b then Err (Collides (at l) (scope_at st.entries scope)) else Ok tt in t) ≡ Ok u → b ≡ false
+    by : (b : Bool) → (let t : Test = if b then Err (Collides (at l) (scope_at st.entries scope)) else Ok tt in t)
+        ≡ Ok u → b ≡ false
     by true h = absurd cc
     by false h = refl
 
@@ -454,11 +510,13 @@ defined_does st next l h =
     } in
     let last = any_last (λ s. nat_eq st.scope s) st.defined st.scope (eq-eqb st.scope st.scope refl) in
     subst (Does st (Body st.scope ∷ [])) is (record {
-      adds = adds_one (known st) (known more) (Body st.scope) grows last (clash (undefined_is st st.scope l u test)) (λ n lt. inl lt);
+      adds = adds_one (known st) (known more) (Body st.scope) grows last (clash (undefined_is st st.scope l u test))
+          (λ n lt. inl lt);
       scope = refl;
     })
   where
-    clash : has_body st.defined st.scope ≡ false → (x : Introduction) → Holds (known st) x → clashes x (Body st.scope) ≡ false
+    clash : has_body st.defined st.scope ≡ false → (x : Introduction) → Holds (known st) x
+        → clashes x (Body st.scope) ≡ false
     clash none (Stands s k kind) has = refl
     clash none (Has s k) has = refl
     clash none (Body s) has = by (nat_eq s st.scope) refl
@@ -466,7 +524,8 @@ defined_does st next l h =
         by : (b : Bool) → nat_eq s st.scope ≡ b → b ≡ false
         by false is = refl
         by true is =
-            let there : has_body st.defined st.scope ≡ true = subst (λ i. has_body st.defined i ≡ true) (eqb-true s st.scope is) has in cc
+            let there : has_body st.defined st.scope ≡ true =
+            subst (λ i. has_body st.defined i ≡ true) (eqb-true s st.scope is) has in cc
 
 -- ---- bases
 
@@ -518,8 +577,16 @@ pub base_does : (st next : State) (inner : ℕ) (name : ScopedName) → base_add
 base_does st next inner name h =
     let (e, finds, rest) = then_ok (resolved st.entries st.scope name) (λ e.
     let base : Base = record { token = (name_start name).number; entry = e } in
-    base_test st inner base (at (name_start name)) >> λ u. let r : StateOrFault = Ok (based st inner base) in r) next h in
+    base_test st inner base (at (name_start name)) >> λ u. let r : StateOrFault = Ok (based st inner base) in r) next h
+    in
     let base : Base = record { token = (name_start name).number; entry = e } in
-    let (u, test, based_is) = then_ok (base_test st inner base (at (name_start name))) (λ u. let r : StateOrFault = Ok (based st inner base) in r) next rest in
+    let (u, test, based_is) =
+    then_ok (base_test st inner base (at (name_start name)))
+    (λ u. let r : StateOrFault = Ok (based st inner base) in r) next rest in
     let is : based st inner base ≡ next = cc in
-    subst (Does st []) is (record { adds = adds_grown (known st) (known (based st inner base)) (based_grows st inner base) (length_like st.entries base inner); scope = refl })
+    subst (Does st []) is (record {
+      adds =
+          adds_grown (known st) (known (based st inner base)) (based_grows st inner base)
+          (length_like st.entries base inner);
+      scope = refl;
+    })

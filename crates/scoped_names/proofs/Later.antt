@@ -78,7 +78,8 @@ base_behind [] b j lt = by (nat_eq b.token j) refl
     by false is = refl
 base_behind (c ∷ cs) b j lt = ap (cond (nat_eq c.token j) (Some c.entry)) (base_behind cs b j lt)
 
-module _ (n : ℕ) (es : List Entry) (e : ℕ) (x : Entry) (base : Base) (there : slice_get es e ≡ Some x) (late : n ≤ base.token) where
+module _ (n : ℕ) (es : List Entry) (e : ℕ) (x : Entry) (base : Base) (there : slice_get es e ≡ Some x)
+    (late : n ≤ base.token) where
   abbrev more : Entry
   more = record x { bases = x.bases ++ base ∷ [] }
 
@@ -87,7 +88,8 @@ module _ (n : ℕ) (es : List Entry) (e : ℕ) (x : Entry) (base : Base) (there 
 
   names_like : (scope : ℕ) (w : List ℕ) → named fs scope w ≡ named es scope w
   names_like scope w =
-      sym (position_map (is_named scope w) bare fs) ∙ ap (position (is_named scope w)) (map_like bare es e x more there refl)
+      sym (position_map (is_named scope w) bare fs)
+      ∙ ap (position (is_named scope w)) (map_like bare es e x more there refl)
       ∙ position_map (is_named scope w) bare es
 
   own_like : (m scope : ℕ) (w : List ℕ) → own fs m scope w ≡ own es m scope w
@@ -99,7 +101,8 @@ module _ (n : ℕ) (es : List Entry) (e : ℕ) (x : Entry) (base : Base) (there 
 
   bases_like : (scope j : ℕ) → j < n → base_at (bases_of fs scope) j ≡ base_at (bases_of es scope) j
   bases_like zero j lt = refl
-  bases_like (suc k) j lt = get_like (λ o. base_at (bases_in o) j) es e x more k there (base_behind x.bases base j (omega arith))
+  bases_like (suc k) j lt =
+      get_like (λ o. base_at (bases_in o) j) es e x more k there (base_behind x.bases base j (omega arith))
 
   later_more : Later n es fs
   later_more =
@@ -112,19 +115,23 @@ module _ (n : ℕ) (es : List Entry) (e : ℕ) (x : Entry) (base : Base) (there 
         bases = bases_like;
       }
 
-pub later_base : (n : ℕ) (es : List Entry) (inner : ℕ) (base : Base) → n ≤ base.token → Later n es (with_base es inner base)
+pub later_base : (n : ℕ) (es : List Entry) (inner : ℕ) (base : Base) → n ≤ base.token
+    → Later n es (with_base es inner base)
 later_base n es zero base late = later_none n es
 later_base n es (suc e) base late = by (slice_get es e) refl
   where
     by : (o : Option Entry) → slice_get es e ≡ o → Later n es (with_base es (suc e) base)
     by None is = subst (λ fs. Later n es fs) (sym (ap (entry_with_base es e base) is)) (later_none n es)
-    by (Some x) is = subst (λ fs. Later n es fs) (sym (ap (entry_with_base es e base) is)) (later_more n es e x base is late)
+    by (Some x) is = subst (λ fs. Later n es fs) (sym (ap (entry_with_base es e base) is))
+        (later_more n es e x base is late)
 
 -- an entry stays the same but for its bases
-pub bare_base : (es : List Entry) (inner : ℕ) (base : Base) (k : ℕ) → option_map bare (slice_get (with_base es inner base) k) ≡ option_map bare (slice_get es k)
+pub bare_base : (es : List Entry) (inner : ℕ) (base : Base) (k : ℕ)
+    → option_map bare (slice_get (with_base es inner base) k) ≡ option_map bare (slice_get es k)
 bare_base es zero base k = refl
 bare_base es (suc e) base k = by (slice_get es e) refl
   where
-    by : (o : Option Entry) → slice_get es e ≡ o → option_map bare (slice_get (entry_with_base es e base o) k) ≡ option_map bare (slice_get es k)
+    by : (o : Option Entry) → slice_get es e ≡ o → option_map bare (slice_get (entry_with_base es e base o) k)
+        ≡ option_map bare (slice_get es k)
     by None is = refl
     by (Some x) is = get_like (option_map bare) es e x (record x { bases = x.bases ++ base ∷ [] }) k is refl

@@ -23,7 +23,8 @@ use Rattle.scoped_names.proofs.Steady.{step_low}
 
 -- ---- one behind another
 
-pub along_joined : (st : State) (xs ys : List Step) → faults_along st (xs ++ ys) ≡ faults_along st xs ++ faults_along (passed_over st xs) ys
+pub along_joined : (st : State) (xs ys : List Step)
+    → faults_along st (xs ++ ys) ≡ faults_along st xs ++ faults_along (passed_over st xs) ys
 along_joined st [] ys = refl
 along_joined st (s ∷ xs) ys =
     let next = behind st (step_read st s) in
@@ -38,7 +39,8 @@ over_joined st (s ∷ xs) ys = over_joined (behind st (step_read st s)) xs ys
 pub passes_none : (st : State) (faults : NameFaults) → Passes st faults [] st faults
 passes_none st faults = record { known = refl; heard = λ all heard. subst (Heard faults) (sym (append-nil all)) heard }
 
-pub passes_joined : (a b c : State) (f g h : NameFaults) (xs ys : List Step) → Passes a f xs b g → Passes b g ys c h → Passes a f (xs ++ ys) c h
+pub passes_joined : (a b c : State) (f g h : NameFaults) (xs ys : List Step) → Passes a f xs b g → Passes b g ys c h
+    → Passes a f (xs ++ ys) c h
 passes_joined a b c f g h xs ys one other = record {
   known = other.known ∙ ap (λ st. passed_over st ys) one.known ∙ sym (over_joined a xs ys);
   heard = λ all heard.
@@ -49,13 +51,16 @@ passes_joined a b c f g h xs ys one other = record {
       subst (Heard h) is (other.heard (all ++ faults_along a xs) (one.heard all heard));
 }
 
-pub step_on : (st next : State) (faults : NameFaults) (s : Step) → step_read st s ≡ Ok next → Passes st faults (s ∷ []) next faults
+pub step_on : (st next : State) (faults : NameFaults) (s : Step) → step_read st s ≡ Ok next
+    → Passes st faults (s ∷ []) next faults
 step_on st next faults s is = record {
   known = sym (ap (behind st) is);
-  heard = λ all heard. subst (λ r. Heard faults (all ++ (fault_in r ++ []))) (sym is) (subst (Heard faults) (sym (append-nil all)) heard);
+  heard = λ all heard. subst (λ r. Heard faults (all ++ (fault_in r ++ []))) (sym is)
+      (subst (Heard faults) (sym (append-nil all)) heard);
 }
 
-pub step_over : (st next : State) (before now : NameFaults) (s : Step) (fault : NameFault) → step_read st s ≡ Err fault → next ≡ st
+pub step_over : (st next : State) (before now : NameFaults) (s : Step) (fault : NameFault) → step_read st s ≡ Err fault
+    → next ≡ st
     → Hears before (fault ∷ []) now → Passes st before (s ∷ []) next now
 step_over st next before now s fault is same hears = record {
   known = same ∙ sym (ap (behind st) is);
@@ -87,12 +92,14 @@ reaches m (DeclaresConst c) f = omega arith
 reaches m (HasBase l name) f = omega arith
 reaches m s f = omega arith
 
-low_by : (st : State) (s : Step) → Follows (latest st.entries) s → (r : StateOrFault) → step_read st s ≡ r → latest (behind st r).entries ≤ reached (latest st.entries) s
+low_by : (st : State) (s : Step) → Follows (latest st.entries) s → (r : StateOrFault) → step_read st s ≡ r
+    → latest (behind st r).entries ≤ reached (latest st.entries) s
 low_by st s follows (Ok next) is = step_low st next s is follows
 low_by st s follows (Err fault) is = reaches (latest st.entries) s follows
 
 -- what rises behind steps rises behind what is known where those that are refused are passed over
-pub rises_over : (st : State) (xs ys : List Step) → Rises (latest st.entries) (xs ++ ys) → Rises (latest (passed_over st xs).entries) ys
+pub rises_over : (st : State) (xs ys : List Step) → Rises (latest st.entries) (xs ++ ys)
+    → Rises (latest (passed_over st xs).entries) ys
 rises_over st [] ys rises = rises
 rises_over st (s ∷ xs) ys rises =
     let next = behind st (step_read st s) in
@@ -110,19 +117,24 @@ rises_passed st next before now xs ys passes rises =
 abbrev pub Continues : State → NameFaults → List Step → State → NameFaults → List Step → Type 0
 Continues a f all b g rest = (c : State) (h : NameFaults) → Passes b g rest c h → Passes a f all c h
 
-pub continues_on : (a b c : State) (f g h : NameFaults) (all xs ys rest : List Step) → Continues a f all b g rest → rest ≡ xs ++ ys → Passes b g xs c h
+pub continues_on : (a b c : State) (f g h : NameFaults) (all xs ys rest : List Step) → Continues a f all b g rest
+    → rest ≡ xs ++ ys → Passes b g xs c h
     → Continues a f all c h ys
 continues_on a b c f g h all xs ys rest before is passes d i more =
     before d i (subst (λ steps. Passes b g steps d i) (sym is) (passes_joined b c d g h i xs ys passes more))
 
-pub continues_done : (a b : State) (f g : NameFaults) (all rest : List Step) → Continues a f all b g rest → rest ≡ [] → Passes a f all b g
-continues_done a b f g all rest before is = before b g (subst (λ steps. Passes b g steps b g) (sym is) (passes_none b g))
+pub continues_done : (a b : State) (f g : NameFaults) (all rest : List Step) → Continues a f all b g rest → rest ≡ []
+    → Passes a f all b g
+continues_done a b f g all rest before is =
+    before b g (subst (λ steps. Passes b g steps b g) (sym is) (passes_none b g))
 
 abbrev pub Remains : State → NameFaults → NameFaults → ℕ → Type 0
 Remains st before now k = (all : List NameFault) → Heard before all
-    → (heard : List NameFault) × (Heard now heard × (heard ++ faults_left st k (drop k st.entries) ≡ all ++ faults_behind st))
+    → (heard : List NameFault)
+    × (Heard now heard × (heard ++ faults_left st k (drop k st.entries) ≡ all ++ faults_behind st))
 
-pub remains_on : (st : State) (before now next : NameFaults) (k : ℕ) (e : Entry) → drop k st.entries ≡ e ∷ drop (k + 1) st.entries
+pub remains_on : (st : State) (before now next : NameFaults) (k : ℕ) (e : Entry)
+    → drop k st.entries ≡ e ∷ drop (k + 1) st.entries
     → Remains st before now k → Hears now (fault_left st k e) next → Remains st before next (k + 1)
 remains_on st before now next k e is remains hears all heard =
     let (some, both) = remains all heard in
@@ -148,22 +160,27 @@ left_on st before now next k lt remains hears =
     remains_on st before now next k e split remains
     (subst (λ o. IfSome o (λ e. Hears now (fault_left st k e) next)) (slice_get-get_or st.entries k blank lt) hears)
 
-pub remains_done : (st : State) (before now : NameFaults) (k : ℕ) → length st.entries ≤ k → Remains st before now k → Hears before (faults_behind st) now
+pub remains_done : (st : State) (before now : NameFaults) (k : ℕ) → length st.entries ≤ k → Remains st before now k
+    → Hears before (faults_behind st) now
 remains_done st before now k end remains all heard =
     let (some, both) = remains all heard in
     let here = both.0 in
     let whole = both.1 in
-    subst (Heard now) (sym (append-nil some) ∙ ap (λ es. some ++ faults_left st k es) (sym (drop_all k st.entries end)) ∙ whole) here
+    subst (Heard now) (sym (append-nil some) ∙ ap (λ es. some ++ faults_left st k es) (sym (drop_all k st.entries end))
+    ∙ whole) here
 
 -- ---- the first is the one that is told
 
-left_step : (st : State) (p : ℕ) (e : Entry) (es : List Entry) → first_of (faults_left st (suc p) es) ≡ fault_of (passed st (never_defined (left_open st (suc p) es)))
-    → (test : Bool) → first_of ((if test then fault_in (never_defined (at_entry (Some e))) else []) ++ faults_left st (suc p) es)
+left_step : (st : State) (p : ℕ) (e : Entry) (es : List Entry)
+    → first_of (faults_left st (suc p) es) ≡ fault_of (passed st (never_defined (left_open st (suc p) es)))
+    → (test : Bool) → first_of ((if test then fault_in (never_defined (at_entry (Some e))) else [])
+    ++ faults_left st (suc p) es)
     ≡ fault_of (passed st (never_defined (if test then at_entry (Some e) else left_open st (suc p) es)))
 left_step st p e es ih true = refl
 left_step st p e es ih false = ih
 
-left_first : (st : State) (p : ℕ) (es : List Entry) → first_of (faults_left st p es) ≡ fault_of (passed st (never_defined (left_open st p es)))
+left_first : (st : State) (p : ℕ) (es : List Entry)
+    → first_of (faults_left st p es) ≡ fault_of (passed st (never_defined (left_open st p es)))
 left_first st p [] = refl
 left_first st p (e ∷ es) = left_step st p e es (left_first st (suc p) es) (is_left_open st p e)
 
@@ -171,18 +188,23 @@ abbrev last : State → StateOrFault
 last st = passed st (never_defined (left_open st 0 st.entries))
 
 step_first : (st : State) (ss : List Step)
-    → ((next : State) → first_of (faults_along next ss ++ faults_behind (passed_over next ss)) ≡ fault_of (steps_read next ss >> last)) → (r : StateOrFault)
-    → first_of ((fault_in r ++ faults_along (behind st r) ss) ++ faults_behind (passed_over (behind st r) ss)) ≡ fault_of ((r >> λ next. steps_read next ss) >> last)
+    → ((next : State) → first_of (faults_along next ss ++ faults_behind (passed_over next ss))
+    ≡ fault_of (steps_read next ss >> last)) → (r : StateOrFault)
+    → first_of ((fault_in r ++ faults_along (behind st r) ss) ++ faults_behind (passed_over (behind st r) ss))
+    ≡ fault_of ((r >> λ next. steps_read next ss) >> last)
 step_first st ss ih (Ok next) = ih next
 step_first st ss ih (Err fault) = refl
 
-steps_first : (ss : List Step) (st : State) → first_of (faults_along st ss ++ faults_behind (passed_over st ss)) ≡ fault_of (steps_read st ss >> last)
+steps_first : (ss : List Step) (st : State) → first_of (faults_along st ss ++ faults_behind (passed_over st ss))
+    ≡ fault_of (steps_read st ss >> last)
 steps_first [] st = left_first st 0 st.entries
 steps_first (s ∷ ss) st = step_first st ss (steps_first ss) (step_read st s)
 
-same_fault : (r : StateOrFault) → fault_of r ≡ fault_of (r >> λ st. let names : Result FileNames NameFault = Ok (file_names st) in names)
+same_fault : (r : StateOrFault)
+    → fault_of r ≡ fault_of (r >> λ st. let names : Result FileNames NameFault = Ok (file_names st) in names)
 same_fault (Ok st) = refl
 same_fault (Err fault) = refl
 
-pub first_is_told : (definitions : List Definition) → first_of (all_faults definitions) ≡ fault_of (names_of definitions)
+pub first_is_told : (definitions : List Definition)
+    → first_of (all_faults definitions) ≡ fault_of (names_of definitions)
 first_is_told definitions = steps_first (steps_of definitions) nothing_yet ∙ same_fault (specification_read definitions)

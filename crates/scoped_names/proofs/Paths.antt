@@ -6,7 +6,8 @@ use Rattle.name_table.specs.Entry.{AreNested, Entry, around, scope_in, name_in}
 use Rattle.scoped_names.specs.RepositoryIds.{names_to}
 
 -- a bound that is enough is as good as another
-pub steps_enough : (es : List Entry) → ((e : ℕ) → around es (suc e) ≤ e) → (k j scope : ℕ) → scope ≤ k → scope ≤ j → names_to es k scope ≡ names_to es j scope
+pub steps_enough : (es : List Entry) → ((e : ℕ) → around es (suc e) ≤ e) → (k j scope : ℕ) → scope ≤ k → scope ≤ j
+    → names_to es k scope ≡ names_to es j scope
 steps_enough es nested zero zero scope le le' = refl
 steps_enough es nested zero (suc j) zero le le' = refl
 steps_enough es nested zero (suc j) (suc e) le le' = absurd (omega arith)
@@ -15,15 +16,19 @@ steps_enough es nested (suc k) zero (suc e) le le' = absurd (omega arith)
 steps_enough es nested (suc k) (suc j) zero le le' = refl
 steps_enough es nested (suc k) (suc j) (suc e) le le' =
     let below = nested e in
-    ap (λ names. names ++ name_in (slice_get es e) ∷ []) (steps_enough es nested k j (around es (suc e)) (omega (arith, below, le)) (omega (arith, below, le')))
+    ap (λ names. names ++ name_in (slice_get es e) ∷ [])
+    (steps_enough es nested k j (around es (suc e)) (omega (arith, below, le)) (omega (arith, below, le')))
 
 -- one step outwards
-pub names_step : (es : List Entry) → ((e : ℕ) → around es (suc e) ≤ e) → (e : ℕ) (x : Entry) → slice_get es e ≡ Some x → names_to es (suc e) (suc e) ≡ names_to es x.scope x.scope ++ x.name ∷ []
+pub names_step : (es : List Entry) → ((e : ℕ) → around es (suc e) ≤ e) → (e : ℕ) (x : Entry) → slice_get es e ≡ Some x
+    → names_to es (suc e) (suc e) ≡ names_to es x.scope x.scope ++ x.name ∷ []
 names_step es nested e x at =
     let outer = ap scope_in at in
     let below = nested e in
-    ap (λ names. names ++ name_in (slice_get es e) ∷ []) (steps_enough es nested e (around es (suc e)) (around es (suc e)) below (omega arith))
-    ∙ ap (λ o. names_to es o o ++ name_in (slice_get es e) ∷ []) outer ∙ ap (λ o. names_to es x.scope x.scope ++ name_in o ∷ []) at
+    ap (λ names. names ++ name_in (slice_get es e) ∷ [])
+    (steps_enough es nested e (around es (suc e)) (around es (suc e)) below (omega arith))
+    ∙ ap (λ o. names_to es o o ++ name_in (slice_get es e) ∷ []) outer
+    ∙ ap (λ o. names_to es x.scope x.scope ++ name_in o ∷ []) at
 
 -- the scope around an entry's is that of an earlier one
 nested_scopes : (es : List Entry) → AreNested es → (e : ℕ) → around es (suc e) ≤ e
@@ -42,8 +47,11 @@ entry_there (y ∷ ys) zero lt = (y, refl)
 entry_there (y ∷ ys) (suc k) lt = entry_there ys k (omega arith)
 
 -- the name of one more scope is met
-pub path_step : (es : List Entry) → AreNested es → (scope place outer : ℕ) (n : Bor (List ℕ)) (met more : List (Bor (List ℕ))) (whole : List (List ℕ)) → scope ≡ suc place → place < length es
-    → IfSome (slice_get es place) (λ e. outer ≡ e.scope) → n.now ≡ name_in (slice_get es place) → more ≡ met ++ n ∷ [] → names_to es scope scope ++ texts (reverse met) ≡ whole
+pub path_step : (es : List Entry) → AreNested es
+    → (scope place outer : ℕ) (n : Bor (List ℕ)) (met more : List (Bor (List ℕ))) (whole : List (List ℕ))
+    → scope ≡ suc place → place < length es
+    → IfSome (slice_get es place) (λ e. outer ≡ e.scope) → n.now ≡ name_in (slice_get es place) → more ≡ met ++ n ∷ []
+    → names_to es scope scope ++ texts (reverse met) ≡ whole
     → (outer ≤ length es) × (names_to es outer outer ++ texts (reverse more) ≡ whole)
 path_step es nested scope place outer n met more whole next lt scoped named grows so_far =
     let there = entry_there es place lt in
@@ -53,7 +61,8 @@ path_step es nested scope place outer n met more whole next lt scoped named grow
     let name : n.now ≡ x.name = named ∙ ap name_in at in
     let below = nested place x at in
     let step = ap (λ s. names_to es s s) next ∙ names_step es (nested_scopes es nested) place x at in
-    let turned : texts (reverse more) ≡ n.now ∷ texts (reverse met) = ap (λ ms. texts (reverse ms)) grows ∙ ap texts (reverse-append met (n ∷ [])) in (
+    let turned : texts (reverse more) ≡ n.now ∷ texts (reverse met) =
+    ap (λ ms. texts (reverse ms)) grows ∙ ap texts (reverse-append met (n ∷ [])) in (
       omega arith,
       ap (λ s. names_to es s s ++ texts (reverse more)) around_it
           ∙ ap (λ names. names_to es x.scope x.scope ++ names) (turned ∙ ap (λ w. w ∷ texts (reverse met)) name)
@@ -62,6 +71,7 @@ path_step es nested scope place outer n met more whole next lt scoped named grow
     )
 
 -- all are met at the file's scope
-pub path_end : (es : List Entry) (scope : ℕ) (met : List (Bor (List ℕ))) (whole : List (List ℕ)) → scope ≤ 0 → names_to es scope scope ++ texts (reverse met) ≡ whole → texts (reverse met) ≡ whole
+pub path_end : (es : List Entry) (scope : ℕ) (met : List (Bor (List ℕ))) (whole : List (List ℕ)) → scope ≤ 0
+    → names_to es scope scope ++ texts (reverse met) ≡ whole → texts (reverse met) ≡ whole
 path_end es zero met whole le h = h
 path_end es (suc e) met whole le h = absurd (omega arith)

@@ -16,7 +16,9 @@ pub Says-said : (line : List ℕ) (p : Pragma) → Says line p → said line ≡
 Says-said line (Prefix text) h = ap (λ w. said_by_word w (pragma_rest line)) h.word ∙ ap SetsPrefix (sym h.texts)
 Says-said line (Id name text) h =
     ap (λ w. said_by_word w (pragma_rest line)) h.word
-    ∙ ap (λ n. Gives n (WholeId (quoted_text (from_quote (pragma_rest line))))) (sym h.names) ∙ ap (λ t. Gives name.now (WholeId t)) (sym h.texts)
+    ∙ ap (λ n. Gives n (WholeId (quoted_text (from_quote (pragma_rest line))))) (sym h.names)
+    ∙ ap (λ t. Gives name.now (WholeId t)) (sym h.texts)
 Says-said line (Version name number) h =
     ap (λ w. said_by_word w (pragma_rest line)) h.word
-    ∙ ap (λ n. Gives n (VersionOf (version_number (drop (version_place (pragma_rest line)) (pragma_rest line))))) (sym h.names) ∙ ap (λ v. Gives name.now (VersionOf v)) (sym h.numbers)
+    ∙ ap (λ n. Gives n (VersionOf (version_number (drop (version_place (pragma_rest line)) (pragma_rest line)))))
+    (sym h.names) ∙ ap (λ v. Gives name.now (VersionOf v)) (sym h.numbers)

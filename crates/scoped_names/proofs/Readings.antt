@@ -23,18 +23,24 @@ use Rattle.scoped_names.specs.Tests.{at_entry, names_test, operand_test, operand
 
 -- ---- one behind another
 
-pub steps_at : {T : Type 0} (step : T → Step) (xs : List T) (k : ℕ) (x : T) → k < length xs → x ≡ get_or xs k x → map step (drop k xs) ≡ step x ∷ map step (drop (k + 1) xs)
+pub steps_at : {T : Type 0} (step : T → Step) (xs : List T) (k : ℕ) (x : T) → k < length xs → x ≡ get_or xs k x
+    → map step (drop k xs) ≡ step x ∷ map step (drop (k + 1) xs)
 steps_at step xs k x lt here = ap (map step) (split_at xs k x lt here)
 
-pub steps_on : {T : Type 0} (step : T → Step) (st next : State) (xs : List T) (k : ℕ) (x : T) → k < length xs → x ≡ get_or xs k x
-    → step_read st (step x) ≡ Ok next → steps_read next (map step (drop (k + 1) xs)) ≡ steps_read st (map step (drop k xs))
+pub steps_on : {T : Type 0} (step : T → Step) (st next : State) (xs : List T) (k : ℕ) (x : T) → k < length xs
+    → x ≡ get_or xs k x
+    → step_read st (step x) ≡ Ok next → steps_read next (map step (drop (k + 1) xs))
+    ≡ steps_read st (map step (drop k xs))
 steps_on step st next xs k x lt here is =
-    sym (ap (steps_read st) (steps_at step xs k x lt here) ∙ ap (λ r. r >> λ behind. steps_read behind (map step (drop (k + 1) xs))) is)
+    sym (ap (steps_read st) (steps_at step xs k x lt here)
+    ∙ ap (λ r. r >> λ behind. steps_read behind (map step (drop (k + 1) xs))) is)
 
-pub steps_off : {T : Type 0} (step : T → Step) (st : State) (xs : List T) (k : ℕ) (x : T) (fault : NameFault) → k < length xs → x ≡ get_or xs k x
+pub steps_off : {T : Type 0} (step : T → Step) (st : State) (xs : List T) (k : ℕ) (x : T) (fault : NameFault)
+    → k < length xs → x ≡ get_or xs k x
     → step_read st (step x) ≡ Err fault → steps_read st (map step (drop k xs)) ≡ Err fault
 steps_off step st xs k x fault lt here is =
-    ap (steps_read st) (steps_at step xs k x lt here) ∙ ap (λ r. r >> λ behind. steps_read behind (map step (drop (k + 1) xs))) is
+    ap (steps_read st) (steps_at step xs k x lt here)
+    ∙ ap (λ r. r >> λ behind. steps_read behind (map step (drop (k + 1) xs))) is
 
 abbrev pub all : {T : Type 0} → (T → Test) → List T → Test
 all test [] = Ok tt
@@ -47,7 +53,8 @@ or_told (inl a) tells = inl a
 or_told (inr b) tells = inr (tells b)
 
 -- what a test lets pass, and then a value
-pub checked_then : {T S : Type 0} (r : Result T NameFault) (test : Test) (x : S) → Checks r test → Tells r x (test >> λ u. Ok x)
+pub checked_then : {T S : Type 0} (r : Result T NameFault) (test : Test) (x : S) → Checks r test
+    → Tells r x (test >> λ u. Ok x)
 checked_then (Ok y) test x h = ap (λ t. t >> λ u. Ok x) h
 checked_then (Err fault) test x (inl memory) = inl memory
 checked_then (Err fault) test x (inr is) = inr (ap (λ t. t >> λ u. Ok x) is)
@@ -60,12 +67,25 @@ keeps_same (Err fault) x = inr refl
 -- ---- what is left open
 
 pub blank : Entry
-blank = record { scope = 0; name = []; token = 0; kind = ModuleKind; bases = []; worth = None; stands_for = None; line = 0; identifier = 0; prefix = [] }
+blank = record {
+  scope = 0;
+  name = [];
+  token = 0;
+  kind = ModuleKind;
+  bases = [];
+  worth = None;
+  stands_for = None;
+  line =
+      0;
+  identifier = 0;
+  prefix = [];
+}
 
 opened : State → ℕ → Entry → Bool → Option At
 opened st k e b = if b then at_entry (Some e) else left_open st (suc k) (drop (suc k) st.entries)
 
-pub open_on : (st : State) (k : ℕ) (r : Bool) → k < length st.entries → IfSome (slice_get st.entries k) (λ e. r ≡ is_left_open st k e) → r ≡ false
+pub open_on : (st : State) (k : ℕ) (r : Bool) → k < length st.entries
+    → IfSome (slice_get st.entries k) (λ e. r ≡ is_left_open st k e) → r ≡ false
     → left_open st (k + 1) (drop (k + 1) st.entries) ≡ left_open st k (drop k st.entries)
 unfolding opened
 open_on st k r lt tested is =
@@ -73,9 +93,11 @@ open_on st k r lt tested is =
     let here = slice_get-get_or st.entries k blank lt in
     let same : r ≡ is_left_open st k e = subst (λ o. IfSome o (λ e. r ≡ is_left_open st k e)) here tested in
     let next : suc k ≡ k + 1 = omega arith in
-    sym (ap (left_open st k) (drop_at st.entries k e here) ∙ ap (opened st k e) (sym same ∙ is) ∙ ap (λ j. left_open st j (drop j st.entries)) next)
+    sym (ap (left_open st k) (drop_at st.entries k e here) ∙ ap (opened st k e) (sym same ∙ is)
+    ∙ ap (λ j. left_open st j (drop j st.entries)) next)
 
-pub open_off : (st : State) (k : ℕ) (r : Bool) → k < length st.entries → IfSome (slice_get st.entries k) (λ e. r ≡ is_left_open st k e) → r ≡ true
+pub open_off : (st : State) (k : ℕ) (r : Bool) → k < length st.entries
+    → IfSome (slice_get st.entries k) (λ e. r ≡ is_left_open st k e) → r ≡ true
     → left_open st k (drop k st.entries) ≡ at_entry (slice_get st.entries k)
 unfolding opened
 open_off st k r lt tested is =
@@ -86,12 +108,15 @@ open_off st k r lt tested is =
 
 -- ---- what is declared again
 
-pub told_again : {T : Type 0} (m : Meaning) (st : State) (l : Leaf) (n : ℕ) (r : Result T NameFault) → n < length st.entries → free_test l (taken_by st (word l)) ≡ Ok tt
-    → named st.entries st.scope (word l) ≡ Some n → IfSome (slice_get st.entries n) (λ e. Tells r st (reappears m.kind st l e)) → Tells r st (declared_as m st l)
+pub told_again : {T : Type 0} (m : Meaning) (st : State) (l : Leaf) (n : ℕ) (r : Result T NameFault)
+    → n < length st.entries → free_test l (taken_by st (word l)) ≡ Ok tt
+    → named st.entries st.scope (word l) ≡ Some n
+    → IfSome (slice_get st.entries n) (λ e. Tells r st (reappears m.kind st l e)) → Tells r st (declared_as m st l)
 told_again m st l n r lt free there tells =
     let e = get_or st.entries n blank in
     let here = slice_get-get_or st.entries n blank lt in
-    let one : Tells r st (reappears m.kind st l e) = subst (λ o. IfSome o (λ e. Tells r st (reappears m.kind st l e))) here tells in
+    let one : Tells r st (reappears m.kind st l e) =
+    subst (λ o. IfSome o (λ e. Tells r st (reappears m.kind st l e))) here tells in
     let is : declared_as m st l ≡ reappears m.kind st l e =
     ap (λ t. t >> λ u. declares_over m st l (entry_in st.entries (named st.entries st.scope (word l)))) free
     ∙ ap (λ o. declares_over m st l (entry_in st.entries o)) there ∙ ap (declares_over m st l) here in
@@ -110,8 +135,10 @@ fitness here open_ twice clashes =
 -- ---- chains
 
 pub names_told : (es : List Entry) (scope : ℕ) (first : Box Expr Global) (rest : Vec Operand Global)
-    → names_test es scope (Chain first rest) ≡ (names_test es scope first.value >> λ u. all (operand_test es scope) rest.items)
+    → names_test es scope (Chain first rest)
+    ≡ (names_test es scope first.value >> λ u. all (operand_test es scope) rest.items)
 names_told es scope first rest =
-    chain_walk (names_test es scope) (λ n row. operands_test es scope row) (λ e others. names_test es scope e >> λ u. others) (Ok tt)
+    chain_walk (names_test es scope) (λ n row. operands_test es scope row)
+    (λ e others. names_test es scope e >> λ u. others) (Ok tt)
     (λ x others. operand_test es scope x >> λ u. others) (all (operand_test es scope))
     (λ p e shape row. refl) refl (λ n x row. refl) refl (λ x xs. refl) first rest

@@ -98,7 +98,8 @@ Begins-more {l} {ps} b qs =
     let some = b.some in
     record { at = λ n h. b.at n (AreNumbered-append ps qs n h).0; some = omega arith }
 
-Begins-path : (root : Option Leaf) (first : Leaf) → Begins (root_or root first) (optional root_yield root ++ identifier first)
+Begins-path : (root : Option Leaf) (first : Leaf)
+    → Begins (root_or root first) (optional root_yield root ++ identifier first)
 Begins-path None first = Begins-kept Ident first.token.text.now first
 Begins-path (Some root) first = Begins-more (Begins-kept Punct (codes "::") root) (identifier first)
 
@@ -112,7 +113,8 @@ Begins-expr (Number l) = Begins-kept Integer l.token.text.now l
 Begins-expr (Character l) = Begins-kept CharLit l.token.text.now l
 Begins-expr (Text ls) = Begins-more (Begins-kept TextLit ls.value.first.token.text.now ls.value.first) _
 Begins-expr (Boolean b word) = Begins-kept Keyword (boolean_text b) word
-Begins-expr (Parenthesized' l p inner) = Begins-more (Begins-more (Begins-kept Punct (codes "(") l) (expr_yield inner)) _
+Begins-expr (Parenthesized' l p inner) =
+    Begins-more (Begins-more (Begins-kept Punct (codes "(") l) (expr_yield inner)) _
 Begins-expr (Signed' m s p inner) = Begins-more (Begins-kept Punct (sign_text s) m) (expr_yield inner)
 Begins-expr (Chain' p first shape rest) = Begins-more (Begins-expr first) (operands_yield rest)
 
@@ -145,7 +147,8 @@ plain_along (Says l) is = stands (Says l) (Begins-kept Pragma l.token.text.now l
 plain_along s is = absurd is
 
 -- a base stands behind its mark
-base_along : (text : List ℕ) (id : Leaf) (name : ScopedName) → Along (mark text ++ name_yield name) (HasBase id name ∷ [])
+base_along : (text : List ℕ) (id : Leaf) (name : ScopedName)
+    → Along (mark text ++ name_yield name) (HasBase id name ∷ [])
 unfolding piece
 base_along text id name = record {
   go = λ n s rest r.
@@ -156,7 +159,8 @@ base_along text id name = record {
       (omega arith, Rises-mono (name_start name).number _ rest (omega arith) r);
 }
 
-valued_along : (c : Const) → Along ((identifier c.identifier ++ mark (codes "=")) ++ const_expr_yield c.value) (IsNew c.identifier ∷ DeclaresConst c ∷ [])
+valued_along : (c : Const) → Along ((identifier c.identifier ++ mark (codes "=")) ++ const_expr_yield c.value)
+    (IsNew c.identifier ∷ DeclaresConst c ∷ [])
 unfolding kept piece
 valued_along c = record {
   go = λ n s rest r.
@@ -196,4 +200,5 @@ pub rising : (spec : Spec) → Rises 0 (steps_of spec.definitions.items)
 rising spec =
     let all = along (all_ask spec.definitions.items) in
     let few = Spec-length spec in
-    rw (← append-nil (steps_of spec.definitions.items)) (all.go 0 (record { numbered = Spec-numbers spec; small = omega arith }) [] tt)
+    rw (← append-nil (steps_of spec.definitions.items))
+    (all.go 0 (record { numbered = Spec-numbers spec; small = omega arith }) [] tt)

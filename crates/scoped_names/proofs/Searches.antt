@@ -59,20 +59,24 @@ module _ (es : List Entry) where
   inherited_in : (m scope : ℕ) (w : List ℕ) → IsIn (length es) (inherited es m scope w)
   inherited_in zero scope w = tt
   inherited_in (suc m) scope w =
-      both_in (length es) (inherited es m scope w) (from_base (λ s. or_else (own es m s w) (inherited es m s w)) (base_at (bases_of es scope) m))
+      both_in (length es) (inherited es m scope w)
+      (from_base (λ s. or_else (own es m s w) (inherited es m s w)) (base_at (bases_of es scope) m))
       (inherited_in m scope w) (by (base_at (bases_of es scope) m) (λ s. inherited_in m s w))
     where
       by : (b : Option ℕ) → ((s : ℕ) → IsIn (length es) (inherited es m s w))
           → IsIn (length es) (from_base (λ s. or_else (own es m s w) (inherited es m s w)) b)
       by None rest = tt
-      by (Some b) rest = or_else_in (length es) (own es m (suc b) w) (inherited es m (suc b) w) (own_in m (suc b) w) (rest (suc b))
+      by (Some b) rest = or_else_in (length es) (own es m (suc b) w) (inherited es m (suc b) w) (own_in m (suc b) w)
+          (rest (suc b))
 
   within_in : (m scope : ℕ) (w : List ℕ) → IsIn (length es) (within es m scope w)
-  within_in m scope w = or_else_in (length es) (own es m scope w) (inherited es m scope w) (own_in m scope w) (inherited_in m scope w)
+  within_in m scope w = or_else_in (length es) (own es m scope w) (inherited es m scope w) (own_in m scope w)
+      (inherited_in m scope w)
 
   first_in : (m : ℕ) (scopes w : List ℕ) → IsIn (length es) (within_first es m scopes w)
   first_in m [] w = tt
-  first_in m (s ∷ ss) w = or_else_in (length es) (within es m s w) (within_first es m ss w) (within_in m s w) (first_in m ss w)
+  first_in m (s ∷ ss) w = or_else_in (length es) (within es m s w) (within_first es m ss w) (within_in m s w)
+      (first_in m ss w)
 
 -- so is what is seen
 abbrev pub IsSeenIn : ℕ → Sight → Type 0
@@ -91,20 +95,23 @@ module _ (es : List Entry) where
       by false = h
   sight_in w (Several a b) h = h
 
-  inside_in : (m : ℕ) (seen : Sight) (ws : List (List ℕ)) → IsSeenIn (length es) seen → IsSeenIn (length es) (inside es m seen ws)
+  inside_in : (m : ℕ) (seen : Sight) (ws : List (List ℕ)) → IsSeenIn (length es) seen
+      → IsSeenIn (length es) (inside es m seen ws)
   inside_in m seen [] h = h
   inside_in m Unseen (w ∷ ws) h = tt
   inside_in m (OtherCase e) (w ∷ ws) h = h
   inside_in m (Unclear a b) (w ∷ ws) h = h
   inside_in m (Seen e) (w ∷ ws) h =
-      inside_in m (sight es w (within es m (suc e) w)) ws (sight_in w (within es m (suc e) w) (within_in es m (suc e) w))
+      inside_in m (sight es w (within es m (suc e) w)) ws
+      (sight_in w (within es m (suc e) w) (within_in es m (suc e) w))
 
   pub sees_in : (scope : ℕ) (name : ScopedName) → IsSeenIn (length es) (sees es scope name)
   sees_in scope name =
       let n = (name_start name).number in
       let w = word (name_first name) in
       let first = within_first es n (sought_in es scope (is_rooted name)) w in
-      inside_in n (sight es w first) (map word (name_rest name)) (sight_in w first (first_in es n (sought_in es scope (is_rooted name)) w))
+      inside_in n (sight es w first) (map word (name_rest name))
+      (sight_in w first (first_in es n (sought_in es scope (is_rooted name)) w))
 
 -- ---- what stays
 
@@ -113,12 +120,14 @@ pub record IsScope (es : List Entry) (scope : ℕ) : Type 0 where
   pub nested : AreNested es
   pub low : scope ≤ length es
 
-through : {A : Type 0} (f : Option Entry → A) → ((e : Entry) → f (Some (bare e)) ≡ f (Some e)) → (o : Option Entry) → f (option_map bare o) ≡ f o
+through : {A : Type 0} (f : Option Entry → A) → ((e : Entry) → f (Some (bare e)) ≡ f (Some e)) → (o : Option Entry)
+    → f (option_map bare o) ≡ f o
 through f same None = refl
 through f same (Some e) = same e
 
 -- what doesn't ask for the bases of an entry
-pub stays : {n : ℕ} {es fs : List Entry} {A : Type 0} (f : Option Entry → A) → ((e : Entry) → f (Some (bare e)) ≡ f (Some e)) → Later n es fs → (k : ℕ) → k < length es
+pub stays : {n : ℕ} {es fs : List Entry} {A : Type 0} (f : Option Entry → A)
+    → ((e : Entry) → f (Some (bare e)) ≡ f (Some e)) → Later n es fs → (k : ℕ) → k < length es
     → f (slice_get fs k) ≡ f (slice_get es k)
 stays {es = es} {fs = fs} f same l k lt =
     sym (through f same (slice_get fs k)) ∙ ap f (l.kept k lt) ∙ through f same (slice_get es k)
@@ -127,12 +136,14 @@ module _ (n : ℕ) (es fs : List Entry) (l : Later n es fs) where
   within_stays : (scope : ℕ) (w : List ℕ) → within fs n scope w ≡ within es n scope w
   within_stays scope w =
       ap (λ x. or_else x (inherited fs n scope w)) (l.owned n scope w (omega arith))
-      ∙ ap (or_else (own es n scope w)) (agree es fs n l.bases (λ m s v lt. l.owned m s v (omega arith)) n scope w (omega arith))
+      ∙ ap (or_else (own es n scope w))
+      (agree es fs n l.bases (λ m s v lt. l.owned m s v (omega arith)) n scope w (omega arith))
 
   first_stays : (scopes w : List ℕ) → within_first fs n scopes w ≡ within_first es n scopes w
   first_stays [] w = refl
   first_stays (s ∷ ss) w =
-      ap (λ x. or_else x (within_first fs n ss w)) (within_stays s w) ∙ ap (or_else (within es n s w)) (first_stays ss w)
+      ap (λ x. or_else x (within_first fs n ss w)) (within_stays s w)
+      ∙ ap (or_else (within es n s w)) (first_stays ss w)
 
   outwards_stay : AreNested es → (k scope : ℕ) → scope ≤ length es → outwards fs k scope ≡ outwards es k scope
   outwards_stay nested zero scope low = refl
@@ -140,13 +151,15 @@ module _ (n : ℕ) (es fs : List Entry) (l : Later n es fs) where
   outwards_stay nested (suc k) (suc e) low =
       let lt : e < length es = omega arith in
       let next : around es (suc e) ≤ length es = by (slice_get es e) refl lt in
-      ap (λ s. suc e ∷ outwards fs k s) (stays scope_in (λ x. refl) l e lt) ∙ ap (λ ss. suc e ∷ ss) (outwards_stay nested k (around es (suc e)) next)
+      ap (λ s. suc e ∷ outwards fs k s) (stays scope_in (λ x. refl) l e lt)
+      ∙ ap (λ ss. suc e ∷ ss) (outwards_stay nested k (around es (suc e)) next)
     where
       by : (o : Option Entry) → slice_get es e ≡ o → e < length es → scope_in o ≤ length es
       by None is lt = omega arith
       by (Some x) is lt = let le = nested e x is in omega arith
 
-  sought_stays : (scope : ℕ) → IsScope es scope → (rooted : Bool) → sought_in fs scope rooted ≡ sought_in es scope rooted
+  sought_stays : (scope : ℕ) → IsScope es scope → (rooted : Bool)
+      → sought_in fs scope rooted ≡ sought_in es scope rooted
   sought_stays scope is true = refl
   sought_stays scope is false = outwards_stay is.nested scope scope is.low
 
@@ -166,7 +179,8 @@ module _ (n : ℕ) (es fs : List Entry) (l : Later n es fs) where
       ∙ inside_stays (sight es w (within es n (suc e) w)) ws
 
 -- a name of the token n sees what it saw
-pub sees_stays : (es fs : List Entry) (scope : ℕ) (name : ScopedName) → Later (name_start name).number es fs → IsScope es scope → sees fs scope name ≡ sees es scope name
+pub sees_stays : (es fs : List Entry) (scope : ℕ) (name : ScopedName) → Later (name_start name).number es fs
+    → IsScope es scope → sees fs scope name ≡ sees es scope name
 sees_stays es fs scope name l is =
     let n = (name_start name).number in
     let w = word (name_first name) in

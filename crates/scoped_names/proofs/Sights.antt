@@ -9,7 +9,8 @@ use Rattle.name_table.specs.Search.{found_by}
 use Rattle.idl_tree.specs.declared.names.At.{At}
 use Rattle.scoped_names.specs.Tests.{found_at}
 
-pub found_finds : (es : List Entry) (at : At) (seen : Sight) (e : ℕ) → (found_at es at seen ≡ Ok e) ↔ (found_by seen ≡ One e)
+pub found_finds : (es : List Entry) (at : At) (seen : Sight) (e : ℕ) → (found_at es at seen ≡ Ok e)
+    ↔ (found_by seen ≡ One e)
 found_finds es at Unseen e = (λ h. cc, λ h. cc)
 found_finds es at (OtherCase k) e = (λ h. cc, λ h. cc)
 found_finds es at (Unclear a b) e = (λ h. cc, λ h. cc)

@@ -67,7 +67,8 @@ StepUpTo n s = Unit {0}
 
 -- ---- what stays
 
-then_same : {A B : Type 0} (r : Result A NameFault) (f g : A → Result B NameFault) → ((x : A) → r ≡ Ok x → f x ≡ g x) → (r >> f) ≡ (r >> g)
+then_same : {A B : Type 0} (r : Result A NameFault) (f g : A → Result B NameFault) → ((x : A) → r ≡ Ok x → f x ≡ g x)
+    → (r >> f) ≡ (r >> g)
 then_same (Ok x) f g same = same x refl
 then_same (Err fault) f g same = refl
 
@@ -75,16 +76,21 @@ module _ (n : ℕ) (es fs : List Entry) (l : Later n es fs) (scope : ℕ) (is : 
   sight_stays : (name : ScopedName) → (name_start name).number ≤ n → sees fs scope name ≡ sees es scope name
   sight_stays name le = sees_stays es fs scope name (later_from (name_start name).number le l) is
 
-  pub resolved_stays : (name : ScopedName) → (name_start name).number ≤ n → resolved fs scope name ≡ resolved es scope name
+  pub resolved_stays : (name : ScopedName) → (name_start name).number ≤ n
+      → resolved fs scope name ≡ resolved es scope name
   resolved_stays name le =
       ap (found_at fs (at (name_start name))) (sight_stays name le) ∙ by (sees es scope name) (sees_in es scope name)
     where
-      by : (seen : Sight) → IsSeenIn (length es) seen → found_at fs (at (name_start name)) seen ≡ found_at es (at (name_start name)) seen
+      by : (seen : Sight) → IsSeenIn (length es) seen → found_at fs (at (name_start name)) seen
+          ≡ found_at es (at (name_start name)) seen
       by Unseen lt = refl
       by (OtherCase e) lt = ap (λ o. Err (CaseDiffers (at (name_start name)) o)) (stays at_entry (λ x. refl) l e lt)
       by (Unclear a b) lt =
-          ap (λ o. let r : Result ℕ NameFault = Err (Ambiguous (at (name_start name)) o (at_entry (slice_get fs b))) in r) (stays at_entry (λ x. refl) l a lt.0)
-          ∙ ap (λ o. let r : Result ℕ NameFault = Err (Ambiguous (at (name_start name)) (at_entry (slice_get es a)) o) in r) (stays at_entry (λ x. refl) l b lt.1)
+          ap (λ o. let r : Result ℕ NameFault = Err (Ambiguous (at (name_start name)) o (at_entry (slice_get fs b))) in
+          r) (stays at_entry (λ x. refl) l a lt.0)
+          ∙ ap (λ o. let r : Result ℕ NameFault =
+          Err (Ambiguous (at (name_start name)) (at_entry (slice_get es a)) o) in r)
+          (stays at_entry (λ x. refl) l b lt.1)
       by (Seen e) lt = refl
 
   resolved_in : (name : ScopedName) (e : ℕ) → resolved es scope name ≡ Ok e → e < length es
@@ -97,22 +103,29 @@ module _ (n : ℕ) (es fs : List Entry) (l : Later n es fs) (scope : ℕ) (is : 
       by (Seen k) lt h = let same : k ≡ e = cc in omega arith
 
   -- what is asked of the entry that a name finds
-  found_then : (f : Option Entry → Test) → ((e : Entry) → f (Some (record e { bases = [] })) ≡ f (Some e)) → (name : ScopedName) → (name_start name).number ≤ n
+  found_then : (f : Option Entry → Test) → ((e : Entry) → f (Some (record e { bases = [] })) ≡ f (Some e))
+      → (name : ScopedName) → (name_start name).number ≤ n
       → (resolved fs scope name >> λ e. f (slice_get fs e)) ≡ (resolved es scope name >> λ e. f (slice_get es e))
   found_then f same name le =
       ap (λ r. r >> λ e. f (slice_get fs e)) (resolved_stays name le)
-      ∙ then_same (resolved es scope name) (λ e. f (slice_get fs e)) (λ e. f (slice_get es e)) (λ e is_e. stays f same l e (resolved_in name e is_e))
+      ∙ then_same (resolved es scope name) (λ e. f (slice_get fs e)) (λ e. f (slice_get es e))
+      (λ e is_e. stays f same l e (resolved_in name e is_e))
 
-  pub found_of_stays : (wanted : EntryKind → Bool) (name : ScopedName) → (name_start name).number ≤ n → found_of wanted fs scope name ≡ found_of wanted es scope name
+  pub found_of_stays : (wanted : EntryKind → Bool) (name : ScopedName) → (name_start name).number ≤ n
+      → found_of wanted fs scope name ≡ found_of wanted es scope name
   found_of_stays wanted name le =
-      found_then (λ o. if is_of wanted o then Ok tt else Err (NotAType (at (name_start name)) (kind_in o))) (λ x. refl) name le
+      found_then (λ o. if is_of wanted o then Ok tt else Err (NotAType (at (name_start name)) (kind_in o))) (λ x. refl)
+      name le
 
-  constant_test_stays : (name : ScopedName) → (name_start name).number ≤ n → constant_test fs scope name ≡ constant_test es scope name
+  constant_test_stays : (name : ScopedName) → (name_start name).number ≤ n
+      → constant_test fs scope name ≡ constant_test es scope name
   constant_test_stays name le =
       found_then (λ o. or_bad NoConstant (at (name_start name)) (worth_in o) >> λ c. Ok tt) (λ x. refl) name le
 
-  named_worth_stays : (name : ScopedName) → (name_start name).number ≤ n → named_worth fs scope name ≡ named_worth es scope name
-  named_worth_stays name le = ap (λ s. worth_found fs (found_by s)) (sight_stays name le) ∙ by (sees es scope name) (sees_in es scope name)
+  named_worth_stays : (name : ScopedName) → (name_start name).number ≤ n
+      → named_worth fs scope name ≡ named_worth es scope name
+  named_worth_stays name le = ap (λ s. worth_found fs (found_by s)) (sight_stays name le)
+      ∙ by (sees es scope name) (sees_in es scope name)
     where
       by : (seen : Sight) → IsSeenIn (length es) seen → worth_found fs (found_by seen) ≡ worth_found es (found_by seen)
       by Unseen lt = refl
@@ -120,8 +133,10 @@ module _ (n : ℕ) (es fs : List Entry) (l : Later n es fs) (scope : ℕ) (is : 
       by (Unclear a b) lt = refl
       by (Seen e) lt = stays worth_in (λ x. refl) l e lt
 
-  meant_stays : (name : ScopedName) → (name_start name).number ≤ n → meant_found fs (found_by (sees fs scope name)) ≡ meant_found es (found_by (sees es scope name))
-  meant_stays name le = ap (λ s. meant_found fs (found_by s)) (sight_stays name le) ∙ by (sees es scope name) (sees_in es scope name)
+  meant_stays : (name : ScopedName) → (name_start name).number ≤ n
+      → meant_found fs (found_by (sees fs scope name)) ≡ meant_found es (found_by (sees es scope name))
+  meant_stays name le = ap (λ s. meant_found fs (found_by s)) (sight_stays name le)
+      ∙ by (sees es scope name) (sees_in es scope name)
     where
       by : (seen : Sight) → IsSeenIn (length es) seen → meant_found fs (found_by seen) ≡ meant_found es (found_by seen)
       by Unseen lt = refl
@@ -142,7 +157,8 @@ module _ (n : ℕ) (es fs : List Entry) (l : Later n es fs) (scope : ℕ) (is : 
         ap (λ r. r >> λ u. operands_test fs scope rest) (names_test_stays first h.0)
         ∙ ap (λ t. names_test es scope first >> λ u. t) (operands_test_stays rest h.1)
 
-    operands_test_stays : {k : _} (row : Row_of-Operand k) → OperandsUpTo n row → operands_test fs scope row ≡ operands_test es scope row
+    operands_test_stays : {k : _} (row : Row_of-Operand k) → OperandsUpTo n row
+        → operands_test fs scope row ≡ operands_test es scope row
     operands_test_stays end_of-Operand h = refl
     operands_test_stays (more_of-Operand o e rest) h =
         ap (λ r. r >> λ u. operands_test fs scope rest) (names_test_stays e h.0)
@@ -156,15 +172,18 @@ module _ (n : ℕ) (es fs : List Entry) (l : Later n es fs) (scope : ℕ) (is : 
     worth_stays (Text ls) h = refl
     worth_stays (Boolean b word) h = refl
     worth_stays (Parenthesized' k p inner) h = worth_stays inner h
-    worth_stays (Signed' m s p inner) h = ap (λ w. whole_constant (sign_applied s (whole_number w))) (worth_stays inner h)
+    worth_stays (Signed' m s p inner) h =
+        ap (λ w. whole_constant (sign_applied s (whole_number w))) (worth_stays inner h)
     worth_stays (Chain' p first shape rest) h =
         ap (λ w. whole_constant (chain_worth (named_worth fs scope) (whole_number w) rest)) (worth_stays first h.0)
         ∙ ap whole_constant (chain_stays rest h.1 (whole_number (worth (named_worth es scope) first)))
 
-    chain_stays : {k : _} (row : Row_of-Operand k) → OperandsUpTo n row → (before : Option ℤ) → chain_worth (named_worth fs scope) before row ≡ chain_worth (named_worth es scope) before row
+    chain_stays : {k : _} (row : Row_of-Operand k) → OperandsUpTo n row → (before : Option ℤ)
+        → chain_worth (named_worth fs scope) before row ≡ chain_worth (named_worth es scope) before row
     chain_stays end_of-Operand h before = refl
     chain_stays (more_of-Operand o e rest) h before =
-        ap (λ w. chain_worth (named_worth fs scope) (operator_applied o before (whole_number w)) rest) (worth_stays e h.0)
+        ap (λ w. chain_worth (named_worth fs scope) (operator_applied o before (whole_number w)) rest)
+        (worth_stays e h.0)
         ∙ chain_stays rest h.1 (operator_applied o before (whole_number (worth (named_worth es scope) e)))
 
   pub value_stays : (e : Expr) → NamesUpTo n e → value_read fs scope e ≡ value_read es scope e
@@ -173,7 +192,8 @@ module _ (n : ℕ) (es fs : List Entry) (l : Later n es fs) (scope : ℕ) (is : 
       ∙ ap (λ w. names_test es scope e >> λ u. or_bad NoWorth (at (expr_start e)) w) (worth_stays e h)
 
   pub size_stays : (e : Expr) → NamesUpTo n e → size_read fs scope e ≡ size_read es scope e
-  size_stays e h = ap (λ r. r >> λ c. or_bad NotPositive (at (expr_start e)) (positive (whole_number (Some c)))) (value_stays e h)
+  size_stays e h = ap (λ r. r >> λ c. or_bad NotPositive (at (expr_start e)) (positive (whole_number (Some c))))
+      (value_stays e h)
 
   pub kind_stays : (t : ConstType) → TypeUpTo n t → const_type_kind fs scope t ≡ const_type_kind es scope t
   kind_stays (ConstTypes.Integer i) h = refl
@@ -188,7 +208,8 @@ module _ (n : ℕ) (es fs : List Entry) (l : Later n es fs) (scope : ℕ) (is : 
       → value_of_type (const_type_kind fs scope t) fs scope e ≡ value_of_type (const_type_kind es scope t) es scope e
   typed_stays t e ht he =
       ap (λ k. value_of_type k fs scope e) (kind_stays t ht)
-      ∙ ap (λ r. r >> λ c. or_bad NotOfType (at (expr_start e)) (of_type (const_type_kind es scope t) (Some c))) (value_stays e he)
+      ∙ ap (λ r. r >> λ c. or_bad NotOfType (at (expr_start e)) (of_type (const_type_kind es scope t) (Some c)))
+      (value_stays e he)
 
   -- what a step asks is answered as it was
   pub asks_stays : (s : Step) → StepUpTo n s → asks fs scope s ≡ asks es scope s

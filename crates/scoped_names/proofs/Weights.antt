@@ -21,12 +21,15 @@ abbrev pub list_weight : List Operand → ℕ
 list_weight [] = 0
 list_weight (x ∷ xs) = weight x.operand + list_weight xs
 
-pub chain_weight : (first : Box Expr Global) (rest : Vec Operand Global) → weight (Chain first rest) ≡ weight first.value + list_weight rest.items + 1
+pub chain_weight : (first : Box Expr Global) (rest : Vec Operand Global)
+    → weight (Chain first rest) ≡ weight first.value + list_weight rest.items + 1
 chain_weight first rest =
-    chain_walk weight (λ n row. weights row) (λ e others. weight e + others + 1) 0 (λ x others. weight x.operand + others) list_weight
+    chain_walk weight (λ n row. weights row) (λ e others. weight e + others + 1) 0
+    (λ x others. weight x.operand + others) list_weight
     (λ p e shape row. refl) refl (λ n x row. refl) refl (λ x xs. refl) first rest
 
-pub weight_at : (xs : List Operand) (k : ℕ) (x : Operand) → k < length xs → get_or xs k x ≡ x → weight x.operand ≤ list_weight xs
+pub weight_at : (xs : List Operand) (k : ℕ) (x : Operand) → k < length xs → get_or xs k x ≡ x
+    → weight x.operand ≤ list_weight xs
 weight_at [] k x lt here = absurd (omega arith)
 weight_at (y ∷ ys) zero x lt here = omega (arith, ap (λ z. weight z.operand) here)
 weight_at (y ∷ ys) (suc k) x lt here = let rest = weight_at ys k x (omega arith) here in omega (arith, rest)

@@ -50,7 +50,8 @@ finished r = (r >> λ st. passed st (never_defined_test (left_open st 0 st.entri
 -- struct S;
 -- union S;
 another_kind : (l : Leaf) (s : HasForm Ident (codes "S"))
-    → names_of (struct l (codes "S") s 1 1 ∷ union l (codes "S") s 4 2 ∷ []) ≡ Err (Collides (place 4 2) (Some (place 1 1)))
+    → names_of (struct l (codes "S") s 1 1 ∷ union l (codes "S") s 4 2 ∷ [])
+    ≡ Err (Collides (place 4 2) (Some (place 1 1)))
 another_kind l s = refl
 
 -- whatever the entries are, the second stands where the first does
@@ -61,18 +62,23 @@ another_kind_clashes l s es h = let first = (IsDistinct-head clashes _ _ h).0 in
 -- interface I;
 -- interface i;
 another_case : (l : Leaf) (big : HasForm Ident (codes "I")) (small : HasForm Ident (codes "i"))
-    → names_of (interface l (codes "I") big 1 1 ∷ interface l (codes "i") small 4 2 ∷ []) ≡ Err (Collides (place 4 2) (Some (place 1 1)))
+    → names_of (interface l (codes "I") big 1 1 ∷ interface l (codes "i") small 4 2 ∷ [])
+    ≡ Err (Collides (place 4 2) (Some (place 1 1)))
 another_case l big small = refl
 
-another_case_clashes : (l : Leaf) (big : HasForm Ident (codes "I")) (small : HasForm Ident (codes "i")) (es : List Entry)
-    → IsDistinct clashes (introduced es 0 (steps_of (interface l (codes "I") big 1 1 ∷ interface l (codes "i") small 4 2 ∷ []))) → ⊥
+another_case_clashes : (l : Leaf) (big : HasForm Ident (codes "I")) (small : HasForm Ident (codes "i"))
+    (es : List Entry)
+    → IsDistinct clashes (introduced es 0
+    (steps_of (interface l (codes "I") big 1 1 ∷ interface l (codes "i") small 4 2 ∷ []))) → ⊥
 another_case_clashes l big small es h = let first = (IsDistinct-head clashes _ _ h).0 in cc
 
 -- the names of a module alone
 of_module : (m : ModuleRecord) (ds : List Definition) → m.definitions.items ≡ ds
-    → names_of (Module m ∷ []) ≡ finished (steps_read nothing_yet (module_body m.identifier (flat_map definition_steps ds) ++ []))
+    → names_of (Module m ∷ [])
+    ≡ finished (steps_read nothing_yet (module_body m.identifier (flat_map definition_steps ds) ++ []))
 of_module m ds is =
-    ap (λ steps. finished (steps_read nothing_yet (steps ++ []))) (module_listed m ∙ ap (λ xs. module_body m.identifier (flat_map definition_steps xs)) is)
+    ap (λ steps. finished (steps_read nothing_yet (steps ++ [])))
+    (module_listed m ∙ ap (λ xs. module_body m.identifier (flat_map definition_steps xs)) is)
 
 -- module M {
 -- struct m; };
@@ -81,7 +87,8 @@ own_name : (l : Leaf) (big : HasForm Ident (codes "M")) (small : HasForm Ident (
     → names_of (Module (record { identifier = leaf l Ident (codes "M") big 1 1; definitions = ds }) ∷ [])
     ≡ Err (Collides (place 4 2) (Some (place 1 1)))
 own_name l big small ds is =
-    of_module (record { identifier = leaf l Ident (codes "M") big 1 1; definitions = ds }) (struct l (codes "m") small 4 2 ∷ []) is
+    of_module (record { identifier = leaf l Ident (codes "M") big 1 1; definitions = ds })
+    (struct l (codes "m") small 4 2 ∷ []) is
 
 -- interface I;
 -- struct S;
@@ -102,24 +109,30 @@ first_of_two l s = refl
 -- #pragma prefix "p"
 -- interface I;
 another_prefix : (l : Leaf) (i : HasForm Ident (codes "I")) (p : HasForm PragmaToken (codes "#pragma prefix \"p\""))
-    → names_of (interface l (codes "I") i 1 1 ∷ pragma l (codes "#pragma prefix \"p\"") p 3 2 ∷ interface l (codes "I") i 5 3 ∷ [])
+    → names_of (interface l (codes "I") i 1 1 ∷ pragma l (codes "#pragma prefix \"p\"") p 3 2
+    ∷ interface l (codes "I") i 5 3 ∷ [])
     ≡ Err (PrefixDiffers (place 5 3) (Some (place 1 1)))
 another_prefix l i p = refl
 
 -- module M {
 -- #pragma prefix "p"
 -- };
-prefix_inside : (l : Leaf) (m : HasForm Ident (codes "M")) (p : HasForm PragmaToken (codes "#pragma prefix \"p\"")) (ds : Vec Definition Global)
+prefix_inside : (l : Leaf) (m : HasForm Ident (codes "M")) (p : HasForm PragmaToken (codes "#pragma prefix \"p\""))
+    (ds : Vec Definition Global)
     → ds.items ≡ pragma l (codes "#pragma prefix \"p\"") p 3 2 ∷ []
-    → names_of (Module (record { identifier = leaf l Ident (codes "M") m 1 1; definitions = ds }) ∷ []) ≡ Err (PrefixInScope (place 3 2))
+    → names_of (Module (record { identifier = leaf l Ident (codes "M") m 1 1; definitions = ds }) ∷ [])
+    ≡ Err (PrefixInScope (place 3 2))
 prefix_inside l m p ds is =
-    of_module (record { identifier = leaf l Ident (codes "M") m 1 1; definitions = ds }) (pragma l (codes "#pragma prefix \"p\"") p 3 2 ∷ []) is
+    of_module (record { identifier = leaf l Ident (codes "M") m 1 1; definitions = ds })
+    (pragma l (codes "#pragma prefix \"p\"") p 3 2 ∷ []) is
 
 -- interface I;
 -- #pragma ID I "x"
 -- #pragma ID I "y"
-another_id : (l : Leaf) (i : HasForm Ident (codes "I")) (x : HasForm PragmaToken (codes "#pragma ID I \"x\"")) (y : HasForm PragmaToken (codes "#pragma ID I \"y\""))
-    → names_of (interface l (codes "I") i 1 1 ∷ pragma l (codes "#pragma ID I \"x\"") x 3 2 ∷ pragma l (codes "#pragma ID I \"y\"") y 4 3 ∷ [])
+another_id : (l : Leaf) (i : HasForm Ident (codes "I")) (x : HasForm PragmaToken (codes "#pragma ID I \"x\""))
+    (y : HasForm PragmaToken (codes "#pragma ID I \"y\""))
+    → names_of (interface l (codes "I") i 1 1 ∷ pragma l (codes "#pragma ID I \"x\"") x 3 2
+    ∷ pragma l (codes "#pragma ID I \"y\"") y 4 3 ∷ [])
     ≡ Err (IdTwice (place 4 3) (place 3 2))
 another_id l i x y = refl
 

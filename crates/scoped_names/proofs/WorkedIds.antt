@@ -49,14 +49,17 @@ abbrev said_at : At
 said_at = record { token = 30; line = 9 }
 
 -- #pragma version A 1.3
-pub given_version : repository_id (modules (codes "p") []) (record { entry = 1; given = VersionOf (codes "1.3"); at = said_at } ∷ []) 1 ≡ codes "IDL:p/M/A:1.3"
+pub given_version : repository_id (modules (codes "p") [])
+    (record { entry = 1; given = VersionOf (codes "1.3"); at = said_at } ∷ []) 1 ≡ codes "IDL:p/M/A:1.3"
 given_version = refl
 
 -- #pragma ID A "DCE:700dc518-0110-11ce-ac8f-0800090b5d3e:1"
-pub given_id : repository_id (modules (codes "p") []) (record { entry = 1; given = WholeId (codes "DCE:7:1"); at = said_at } ∷ []) 1 ≡ codes "DCE:7:1"
+pub given_id : repository_id (modules (codes "p") [])
+    (record { entry = 1; given = WholeId (codes "DCE:7:1"); at = said_at } ∷ []) 1 ≡ codes "DCE:7:1"
 given_id = refl
 
-pub given_to_another : repository_id (modules [] []) (record { entry = 2; given = WholeId (codes "DCE:7:1"); at = said_at } ∷ []) 1 ≡ codes "IDL:M/A:1.0"
+pub given_to_another : repository_id (modules [] [])
+    (record { entry = 2; given = WholeId (codes "DCE:7:1"); at = said_at } ∷ []) 1 ≡ codes "IDL:M/A:1.0"
 given_to_another = refl
 
 -- ---- pragmas

@@ -20,11 +20,13 @@ use Rattle.scoped_names.specs.Introductions.{Stands, Has, Body, introduced}
 use Rattle.name_steps.specs.Steps.{DeclaresEnumerator, steps_of}
 
 -- enum e {a, b};
-enumeration : (es : List Entry) (e a b : Leaf) (all : Box (Listed Leaf) Global) → all.value.first ≡ a → all.value.rest.items ≡ b ∷ []
+enumeration : (es : List Entry) (e a b : Leaf) (all : Box (Listed Leaf) Global) → all.value.first ≡ a
+    → all.value.rest.items ≡ b ∷ []
     → introduced es 0 (steps_of (Declaration (TypeDcl (Enum (record { identifier = e; enumerators = all }))) ∷ []))
     ≡ Stands 0 e Kinds.Enum ∷ Stands 0 a Kinds.Enumerator ∷ Stands 0 b Kinds.Enumerator ∷ []
 enumeration es e a b all first rest =
-    ap₂ (λ x xs. Stands 0 e Kinds.Enum ∷ Stands 0 x Kinds.Enumerator ∷ introduced es 0 (map DeclaresEnumerator xs ++ [])) first rest
+    ap₂ (λ x xs. Stands 0 e Kinds.Enum ∷ Stands 0 x Kinds.Enumerator
+    ∷ introduced es 0 (map DeclaresEnumerator xs ++ [])) first rest
 
 abbrev operation : Leaf → Leaf → Vec Param Global → Export
 operation f x more = Exports.Operation (record {
@@ -36,7 +38,9 @@ operation f x more = Exports.Operation (record {
 })
 
 -- interface i {void f(in char x);};
-parameter : (es : List Entry) (i f x : Leaf) (more : Vec Param Global) (exports : Vec Export Global) → more.items ≡ [] → exports.items ≡ operation f x more ∷ []
+parameter : (es : List Entry) (i f x : Leaf) (more : Vec Param Global) (exports : Vec Export Global) → more.items ≡ []
+    → exports.items ≡ operation f x more ∷ []
     → introduced es 0 (steps_of (Interface (Defined i None exports) ∷ []))
-    ≡ Stands 0 i Kinds.Interface ∷ Body (scope_of es 0 i) ∷ Stands (scope_of es 0 i) f Kinds.Operation ∷ Has (scope_of es (scope_of es 0 i) f) x ∷ []
+    ≡ Stands 0 i Kinds.Interface ∷ Body (scope_of es 0 i) ∷ Stands (scope_of es 0 i) f Kinds.Operation
+    ∷ Has (scope_of es (scope_of es 0 i) f) x ∷ []
 parameter es i f x more exports alone is = rw is (rw alone)

@@ -7,9 +7,11 @@ ghost use Rattle.scoped_names.specs.Reading.{Checks, Gives};
 ghost use Rattle.scoped_names.specs.Tests.{at_entry, constant_test, found_at as found_at_place, names_test, resolved, size_read, value_of_type, value_read};
 
 use crate::fault::{Flaw, NameFault};
-use name_table::const_values::{ConstKind, Constant, applied, literal_constant, signed, text_constant};
 use idl_tree::expression::{Expr, Operator, Sign};
 use idl_tree::names::{At, ScopedName};
+use name_table::const_values::{
+    ConstKind, Constant, applied, literal_constant, signed, text_constant,
+};
 use name_table::{Scope, Sight, Table};
 use std::alloc::{AllocError, Global};
 

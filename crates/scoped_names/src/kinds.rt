@@ -7,10 +7,10 @@ ghost use Rattle.scoped_names.specs.TypeKinds.{const_type_kind as const_kind_of,
 
 use crate::evaluation::{resolve, size};
 use crate::fault::NameFault;
-use name_table::const_values::ConstKind;
 use idl_tree::const_expr::Bound;
 use idl_tree::names::ScopedName;
 use idl_tree::types::{ConstType, ParamType, SimpleType};
+use name_table::const_values::ConstKind;
 use name_table::{Scope, Table};
 use std::alloc::{AllocError, Global};
 

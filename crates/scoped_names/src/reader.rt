@@ -43,7 +43,16 @@ impl<'a> Model for Reader<'a> {
 
     ghost Value = { State };
 
-    ghost view = { λ r. record { entries = r.tables; members = r.members; defined = r.defined; prefix = r.prefix.now; given = r.ids; scope = r.scope.0; enumeration = r.enumeration } };
+    ghost view = { λ r. record {
+      entries = r.tables;
+      members = r.members;
+      defined = r.defined;
+      prefix =
+          r.prefix.now;
+      given = r.ids;
+      scope = r.scope.0;
+      enumeration = r.enumeration;
+    } };
 
     ghost invariant = { λ r. r.scope.0 ≤ length r.tables };
 }

@@ -18,7 +18,6 @@ use crate::fault::NameFault;
 use crate::kinds::{const_type_kind, simple_type_kind};
 use crate::reader::Reader;
 use crate::repository_ids::PragmaId;
-use name_table::const_values::{ConstKind, Constant};
 use idl_lexer::{Kind, Pragma};
 use idl_tree::definitions::{Const, Definition, Module};
 use idl_tree::kinds::EntryKind;
@@ -26,6 +25,7 @@ use idl_tree::names::{Leaf, ScopedName};
 use idl_tree::spec::Spec;
 use idl_tree::types::{Declarator, TypeSpec};
 use name_steps::{Step, Steps};
+use name_table::const_values::{ConstKind, Constant};
 use name_table::{Base, Meaning, Scope};
 use std::alloc::{AllocError, Global};
 

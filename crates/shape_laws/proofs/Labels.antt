@@ -25,7 +25,8 @@ use Rattle.shape_laws.proofs.TypeParts.{entry_same, entry_found_same, type_found
 
 switch_type_same : (es : List Entry) (w : Lowered) (scope : ℕ) (a b : SwitchType) → switch_shape a ≡ switch_shape b
     → switch_type es w scope a ≡ switch_type es w scope b
-switch_type_same es w scope (SwitchTypes.Integer a) (SwitchTypes.Integer b) h = ap (λ n. Ok (already w (integer_number n))) (integer_same a b cc)
+switch_type_same es w scope (SwitchTypes.Integer a) (SwitchTypes.Integer b) h =
+    ap (λ n. Ok (already w (integer_number n))) (integer_same a b cc)
 switch_type_same es w scope SwitchTypes.Char SwitchTypes.Char h = refl
 switch_type_same es w scope SwitchTypes.Boolean SwitchTypes.Boolean h = refl
 switch_type_same es w scope (SwitchTypes.Enum a) (SwitchTypes.Enum b) h = enum_same es w scope a b cc
@@ -34,8 +35,10 @@ switch_type_same es w scope (SwitchTypes.Name a) (SwitchTypes.Name b) h =
     λ i. type_found_same es w scope a b names i >> λ n. Ok (already w n)
 switch_type_same es w scope a b h = apart h refl
 
-switch_kind_same : (es : List Entry) (scope : ℕ) (a b : SwitchType) → switch_shape a ≡ switch_shape b → switch_kind es scope a ≡ switch_kind es scope b
-switch_kind_same es scope (SwitchTypes.Integer a) (SwitchTypes.Integer b) h = ap (λ n. Ok (Some (Kinds.Integer n))) (integer_same a b cc)
+switch_kind_same : (es : List Entry) (scope : ℕ) (a b : SwitchType) → switch_shape a ≡ switch_shape b
+    → switch_kind es scope a ≡ switch_kind es scope b
+switch_kind_same es scope (SwitchTypes.Integer a) (SwitchTypes.Integer b) h =
+    ap (λ n. Ok (Some (Kinds.Integer n))) (integer_same a b cc)
 switch_kind_same es scope SwitchTypes.Char SwitchTypes.Char h = refl
 switch_kind_same es scope SwitchTypes.Boolean SwitchTypes.Boolean h = refl
 switch_kind_same es scope (SwitchTypes.Enum a) (SwitchTypes.Enum b) h =
@@ -46,7 +49,8 @@ switch_kind_same es scope (SwitchTypes.Name a) (SwitchTypes.Name b) h =
     λ i. entry_found_same es scope a b names i >> λ entry. Ok (meant_in (slice_get es entry))
 switch_kind_same es scope a b h = apart h refl
 
-switch_place : (at to : At) → at ≡ to → (a b : SwitchType) → switch_shape a ≡ switch_shape b → switch_at a at ≡ switch_at b to
+switch_place : (at to : At) → at ≡ to → (a b : SwitchType) → switch_shape a ≡ switch_shape b
+    → switch_at a at ≡ switch_at b to
 switch_place at to p (SwitchTypes.Integer a) (SwitchTypes.Integer b) h = p
 switch_place at to p SwitchTypes.Char SwitchTypes.Char h = p
 switch_place at to p SwitchTypes.Boolean SwitchTypes.Boolean h = p
@@ -55,7 +59,8 @@ switch_place at to p (SwitchTypes.Enum a) (SwitchTypes.Enum b) h =
 switch_place at to p (SwitchTypes.Name a) (SwitchTypes.Name b) h = name_at a b cc
 switch_place at to p a b h = apart h refl
 
-pub switch_same : (es : List Entry) (w : Lowered) (scope : ℕ) (at to : At) → at ≡ to → (a b : SwitchType) → switch_shape a ≡ switch_shape b
+pub switch_same : (es : List Entry) (w : Lowered) (scope : ℕ) (at to : At) → at ≡ to → (a b : SwitchType)
+    → switch_shape a ≡ switch_shape b
     → switch_read es w scope at a ≡ switch_read es w scope to b
 switch_same es w scope at to p a b h =
     λ i. switch_type_same es w scope a b h i >> λ t. switch_kind_same es scope a b h i >> λ kind.
@@ -65,15 +70,18 @@ switch_same es w scope at to p a b h =
 
 -- ---- labels
 
-label_value_same : (es : List Entry) (scope : ℕ) (s : _) (a b : Expr) → expr_shape a ≡ expr_shape b → label_value es scope s a ≡ label_value es scope s b
+label_value_same : (es : List Entry) (scope : ℕ) (s : _) (a b : Expr) → expr_shape a ≡ expr_shape b
+    → label_value es scope s a ≡ label_value es scope s b
 label_value_same es scope s a b h =
     λ i. of_names (value_same es scope a b h i) >> λ c. label_within s (expr_at a b h i) c (label_number c)
 
-pub label_same : (es : List Entry) (scope : ℕ) (s : _) (arms : Arms) (ls : CaseLabels) (a b : Label) → label_shape a ≡ label_shape b
+pub label_same : (es : List Entry) (scope : ℕ) (s : _) (arms : Arms) (ls : CaseLabels) (a b : Label)
+    → label_shape a ≡ label_shape b
     → label_added es scope s arms ls a ≡ label_added es scope s arms ls b
 label_same es scope s arms ls (Labels.Case a) (Labels.Case b) h =
     let worths : const_expr_shape a ≡ const_expr_shape b = cc in
-    λ i. label_value_same es scope s a.expr b.expr worths i >> λ n. value_added arms ls (expr_at a.expr b.expr worths i) n
+    λ i. label_value_same es scope s a.expr b.expr worths i >> λ n. value_added arms ls (expr_at a.expr b.expr worths i)
+    n
 label_same es scope s arms ls (Labels.Default l) (Labels.Default m) h =
     ap (default_added arms ls) (token_at (codes "default") (codes "default") l m cc)
 label_same es scope s arms ls a b h = apart h refl

@@ -38,36 +38,46 @@ use Rattle.shape_laws.proofs.TypeParts.{entry_same, const_type_same, simple_type
 
 -- ---- members
 
-with_declarator_same : (es : List Entry) (scope number : ℕ) (m : WithMembers) (a b : Declarator) → declarator_shape a ≡ declarator_shape b
+with_declarator_same : (es : List Entry) (scope number : ℕ) (m : WithMembers) (a b : Declarator)
+    → declarator_shape a ≡ declarator_shape b
     → with_declarator es scope number m a ≡ with_declarator es scope number m b
 with_declarator_same es scope number m a b h =
     λ i. array_same es scope (already m.lowered number) a b h i >> λ t.
-    member_added m.members (declarator_word a b h i) t.number (declarator_place a b h i) >> λ ms. Ok (with_members_of t.lowered ms)
+    member_added m.members (declarator_word a b h i) t.number (declarator_place a b h i) >> λ ms. Ok
+    (with_members_of t.lowered ms)
 
 with_declarators_same : (es : List Entry) (scope : ℕ) (t : Numbered) (ms : Members) (a b : Listed Declarator)
-    → listed_shape declarator_shape a ≡ listed_shape declarator_shape b → with_declarators es scope t ms a ≡ with_declarators es scope t ms b
+    → listed_shape declarator_shape a ≡ listed_shape declarator_shape b
+    → with_declarators es scope t ms a ≡ with_declarators es scope t ms b
 with_declarators_same es scope t ms a b h =
-    each_same declarator_shape (with_declarator es scope t.number) (with_declarator es scope t.number) (with_declarator_same es scope t.number)
+    each_same declarator_shape (with_declarator es scope t.number) (with_declarator es scope t.number)
+    (with_declarator_same es scope t.number)
     (with_members_of t.lowered ms) (parts a) (parts b) h
 
 first_place : (a b : Listed Declarator) → listed_shape declarator_shape a ≡ listed_shape declarator_shape b
     → declarator_at a.first ≡ declarator_at b.first
 first_place a b h = declarator_place a.first b.first cc
 
-members_added_same : (es : List Entry) (scope : ℕ) (ms : Members) (t u : Result Numbered BuildFault) → t ≡ u → (a b : Listed Declarator)
-    → listed_shape declarator_shape a ≡ listed_shape declarator_shape b → members_added es scope ms t a ≡ members_added es scope ms u b
+members_added_same : (es : List Entry) (scope : ℕ) (ms : Members) (t u : Result Numbered BuildFault) → t ≡ u
+    → (a b : Listed Declarator)
+    → listed_shape declarator_shape a ≡ listed_shape declarator_shape b
+    → members_added es scope ms t a ≡ members_added es scope ms u b
 members_added_same es scope ms t u p a b h = λ i. p i >> λ n. with_declarators_same es scope n ms a b h i
 
 -- ---- cases
 
-labels_same : (es : List Entry) (scope : ℕ) (s : _) (arms : Arms) (a b : Listed Label) → listed_shape label_shape a ≡ listed_shape label_shape b
+labels_same : (es : List Entry) (scope : ℕ) (s : _) (arms : Arms) (a b : Listed Label)
+    → listed_shape label_shape a ≡ listed_shape label_shape b
     → each (label_added es scope s arms) no_labels (parts a) ≡ each (label_added es scope s arms) no_labels (parts b)
 labels_same es scope s arms a b h =
-    each_same label_shape (label_added es scope s arms) (label_added es scope s arms) (label_same es scope s arms) no_labels (parts a) (parts b) h
+    each_same label_shape (label_added es scope s arms) (label_added es scope s arms) (label_same es scope s arms)
+    no_labels (parts a) (parts b) h
 
-case_added_same : (es : List Entry) (scope : ℕ) (s : _) (c : Cases) (a b : Listed Label) → listed_shape label_shape a ≡ listed_shape label_shape b
+case_added_same : (es : List Entry) (scope : ℕ) (s : _) (c : Cases) (a b : Listed Label)
+    → listed_shape label_shape a ≡ listed_shape label_shape b
     → (t u : Lowered → Result Numbered BuildFault) → ((w : Lowered) → t w ≡ u w)
-    → (d e : Declarator) → declarator_shape d ≡ declarator_shape e → case_added es scope s c a t d ≡ case_added es scope s c b u e
+    → (d e : Declarator) → declarator_shape d ≡ declarator_shape e
+    → case_added es scope s c a t d ≡ case_added es scope s c b u e
 case_added_same es scope s c a b h t u p d e k =
     λ i. labels_same es scope s c.arms a b h i >> λ ls. p c.lowered i >> λ n. array_same es scope n d e k i >> λ x.
     Ok (cases_of x.lowered (with_case c.arms (declarator_word d e k i) x.number (declarator_place d e k i) ls))
@@ -75,7 +85,8 @@ case_added_same es scope s c a b h t u p d e k =
 -- ---- types
 
 mutual
-  pub type_same : (es : List Entry) (w : Lowered) (scope : ℕ) (at to : At) → at ≡ to → (a b : TypeSpec) → type_shape a ≡ type_shape b
+  pub type_same : (es : List Entry) (w : Lowered) (scope : ℕ) (at to : At) → at ≡ to → (a b : TypeSpec)
+      → type_shape a ≡ type_shape b
       → type_spec es w scope at a ≡ type_spec es w scope to b
   type_same es w scope at to p (Simple a) (Simple b) h = simple_type_same es w scope at to p a b cc
   type_same es w scope at to p (Struct a) (Struct b) h = struct_same es w scope a b cc
@@ -93,7 +104,8 @@ mutual
       let at = leaf_same l m names in
       let place = first_place ds es' declarators in
       λ i. entry_same es scope l m names i >> λ e. opened w e (at i) >> λ o.
-      members_added_same es (e + 1) no_members _ _ (type_same es o.lowered (e + 1) _ _ place t u types) ds es' declarators i >> λ first.
+      members_added_same es (e + 1) no_members _ _ (type_same es o.lowered (e + 1) _ _ place t u types) ds es'
+      declarators i >> λ first.
       members_same es (e + 1) first rest rest' rests i >> λ ms.
       struct_defined ms o.number (at i) >> λ behind. Ok (already behind o.number)
 
@@ -116,7 +128,8 @@ mutual
       cases_same es (e + 1) switch.switch first rest rest' rests i >> λ c.
       union_defined switch.switch c o.number (at i) >> λ behind. Ok (already behind o.number)
 
-  members_same : {n k : _} (es : List Entry) (scope : ℕ) (m : WithMembers) (a : Row_of-Member n) (b : Row_of-Member k) → members_shape a ≡ members_shape b
+  members_same : {n k : _} (es : List Entry) (scope : ℕ) (m : WithMembers) (a : Row_of-Member n) (b : Row_of-Member k)
+      → members_shape a ≡ members_shape b
       → with_members es scope m a ≡ with_members es scope m b
   members_same es scope m end_of-Member end_of-Member h = refl
   members_same es scope m (more_of-Member t ds rest) (more_of-Member u es' rest') h =
@@ -124,11 +137,13 @@ mutual
       let declarators : listed_shape declarator_shape ds ≡ listed_shape declarator_shape es' = cc in
       let rests : members_shape rest ≡ members_shape rest' = cc in
       let place = first_place ds es' declarators in
-      λ i. members_added_same es scope m.members _ _ (type_same es m.lowered scope _ _ place t u types) ds es' declarators i >> λ next.
+      λ i. members_added_same es scope m.members _ _ (type_same es m.lowered scope _ _ place t u types) ds es'
+      declarators i >> λ next.
       members_same es scope next rest rest' rests i
   members_same es scope m a b h = absurd cc
 
-  cases_same : {n k : _} (es : List Entry) (scope : ℕ) (s : _) (c : Cases) (a : Row_of-Case n) (b : Row_of-Case k) → cases_shape a ≡ cases_shape b
+  cases_same : {n k : _} (es : List Entry) (scope : ℕ) (s : _) (c : Cases) (a : Row_of-Case n) (b : Row_of-Case k)
+      → cases_shape a ≡ cases_shape b
       → with_cases es scope s c a ≡ with_cases es scope s c b
   cases_same es scope s c end_of-Case end_of-Case h = refl
   cases_same es scope s c (more_of-Case ls t d rest) (more_of-Case ms u d' rest') h =
@@ -154,14 +169,17 @@ member_same es scope m a b h =
 
 -- ---- declarations
 
-with_typedef_same : (es : List Entry) (scope number : ℕ) (w : Lowered) (a b : Declarator) → declarator_shape a ≡ declarator_shape b
+with_typedef_same : (es : List Entry) (scope number : ℕ) (w : Lowered) (a b : Declarator)
+    → declarator_shape a ≡ declarator_shape b
     → with_typedef es scope number w a ≡ with_typedef es scope number w b
 with_typedef_same es scope number w a b h =
     λ i. array_same es scope (already w number) a b h i >> λ t.
     entry_same es scope a.identifier b.identifier (declarator_name a b h) i >> λ e. placed t.lowered e (Typed t.number)
 
-ahead_same : (es : List Entry) (w : Lowered) (scope : ℕ) (a b : Leaf) → leaf_shape a ≡ leaf_shape b → ahead es w scope a ≡ ahead es w scope b
-ahead_same es w scope a b h = λ i. entry_same es scope a b h i >> λ e. opened w e (leaf_same a b h i) >> λ o. Ok o.lowered
+ahead_same : (es : List Entry) (w : Lowered) (scope : ℕ) (a b : Leaf) → leaf_shape a ≡ leaf_shape b
+    → ahead es w scope a ≡ ahead es w scope b
+ahead_same es w scope a b h =
+    λ i. entry_same es scope a b h i >> λ e. opened w e (leaf_same a b h i) >> λ o. Ok o.lowered
 
 type_dcl_same : (es : List Entry) (w : Lowered) (scope : ℕ) (a b : TypeDcl) → type_dcl_shape a ≡ type_dcl_shape b
     → type_dcl es w scope a ≡ type_dcl es w scope b
@@ -169,7 +187,8 @@ type_dcl_same es w scope (TypeDcls.Typedef t ds) (TypeDcls.Typedef u ds') h =
     let types : type_shape t ≡ type_shape u = cc in
     let declarators : listed_shape declarator_shape ds ≡ listed_shape declarator_shape ds' = cc in
     λ i. type_same es w scope _ _ (first_place ds ds' declarators) t u types i >> λ n.
-    each_same declarator_shape (with_typedef es scope n.number) (with_typedef es scope n.number) (with_typedef_same es scope n.number)
+    each_same declarator_shape (with_typedef es scope n.number) (with_typedef es scope n.number)
+    (with_typedef_same es scope n.number)
     n.lowered (parts ds) (parts ds') declarators i
 type_dcl_same es w scope (TypeDcls.Struct a) (TypeDcls.Struct b) h =
     let structs : struct_shape a ≡ struct_shape b = cc in λ i. struct_same es w scope a b structs i >> λ n. Ok n.lowered
@@ -187,11 +206,13 @@ excepted : (es : List Entry) (w : Lowered) (scope : ℕ) (at to : At) → at ≡
     → each (with_member es scope) (with_members_of w (id_member at)) a.members.items
     ≡ each (with_member es scope) (with_members_of w (id_member to)) b.members.items
 excepted es w scope at to p a b h =
-    each_same member_shape (with_member es scope) (with_member es scope) (member_same es scope) (with_members_of w (id_member at))
+    each_same member_shape (with_member es scope) (with_member es scope) (member_same es scope)
+    (with_members_of w (id_member at))
     a.members.items b.members.items h
     ∙ ap (λ x. each (with_member es scope) (with_members_of w (id_member x)) b.members.items) p
 
-except_same : (es : List Entry) (w : Lowered) (scope : ℕ) (a b : Except) → except_shape a ≡ except_shape b → except es w scope a ≡ except es w scope b
+except_same : (es : List Entry) (w : Lowered) (scope : ℕ) (a b : Except) → except_shape a ≡ except_shape b
+    → except es w scope a ≡ except es w scope b
 except_same es w scope a b h =
     let names : leaf_shape a.identifier ≡ leaf_shape b.identifier = cc in
     let members : list_shape member_shape a.members.items ≡ list_shape member_shape b.members.items = cc in
@@ -203,7 +224,8 @@ const_same : (es : List Entry) (w : Lowered) (scope : ℕ) (a b : Const) → con
     → const_type es w scope a.const_type ≡ const_type es w scope b.const_type
 const_same es w scope a b h = const_type_same es w scope a.const_type b.const_type cc
 
-pub declaration_same : (es : List Entry) (w : Lowered) (scope : ℕ) (a b : Declaration) → declaration_shape a ≡ declaration_shape b
+pub declaration_same : (es : List Entry) (w : Lowered) (scope : ℕ) (a b : Declaration)
+    → declaration_shape a ≡ declaration_shape b
     → declaration es w scope a ≡ declaration es w scope b
 declaration_same es w scope (Declarations.TypeDcl a) (Declarations.TypeDcl b) h = type_dcl_same es w scope a b cc
 declaration_same es w scope (Declarations.Const a) (Declarations.Const b) h =

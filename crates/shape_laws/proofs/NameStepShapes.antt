@@ -87,12 +87,14 @@ pub flat_parts : {T : Type 0} (part : T → Shape) (f g : T → List Step) → K
 flat_parts part f g same a b h = flat_alike part f g same (parts a) (parts b) cc
 
 -- one step of each part
-pub map_alike : {T : Type 0} (part : T → Shape) (f g : T → Step) → ((x y : T) → part x ≡ part y → step_shape (f x) ≡ step_shape (g y))
+pub map_alike : {T : Type 0} (part : T → Shape) (f g : T → Step)
+    → ((x y : T) → part x ≡ part y → step_shape (f x) ≡ step_shape (g y))
     → (xs ys : List T) → list_shape part xs ≡ list_shape part ys → Alike (map f xs) (map g ys)
 map_alike part f g same [] [] h = none
 map_alike part f g same (x ∷ xs) (y ∷ ys) h = led (f x) (g y) (same x y cc) (map_alike part f g same xs ys cc)
 map_alike part f g same xs ys h = absurd cc
 
-pub map_parts : {T : Type 0} (part : T → Shape) (f g : T → Step) → ((x y : T) → part x ≡ part y → step_shape (f x) ≡ step_shape (g y))
+pub map_parts : {T : Type 0} (part : T → Shape) (f g : T → Step)
+    → ((x y : T) → part x ≡ part y → step_shape (f x) ≡ step_shape (g y))
     → (a b : Listed T) → listed_shape part a ≡ listed_shape part b → Alike (map f (parts a)) (map g (parts b))
 map_parts part f g same a b h = map_alike part f g same (parts a) (parts b) cc

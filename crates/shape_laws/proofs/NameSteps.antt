@@ -31,12 +31,14 @@ use Rattle.shape_laws.proofs.NameStepShapes.{Alike, step_shape, none, led, singl
 
 -- ---- types that declare nothing
 
-bounds_alike : (a b : Option Bound) → optional_shape bound_shape a ≡ optional_shape bound_shape b → Alike (bound_steps a) (bound_steps b)
+bounds_alike : (a b : Option Bound) → optional_shape bound_shape a ≡ optional_shape bound_shape b
+    → Alike (bound_steps a) (bound_steps b)
 bounds_alike None None h = none
 bounds_alike (Some a) (Some b) h = single (IsSize a.expr.value) (IsSize b.expr.value) cc
 bounds_alike a b h = absurd cc
 
-pub const_type_alike : (a b : ConstType) → const_type_shape a ≡ const_type_shape b → Alike (const_type_steps a) (const_type_steps b)
+pub const_type_alike : (a b : ConstType) → const_type_shape a ≡ const_type_shape b
+    → Alike (const_type_steps a) (const_type_steps b)
 const_type_alike (ConstTypes.Integer i) (ConstTypes.Integer j) h = none
 const_type_alike ConstTypes.Char ConstTypes.Char h = none
 const_type_alike ConstTypes.Boolean ConstTypes.Boolean h = none
@@ -45,14 +47,17 @@ const_type_alike (ConstTypes.String a) (ConstTypes.String b) h = bounds_alike a 
 const_type_alike (ConstTypes.Name n) (ConstTypes.Name m) h = single (NamesType n) (NamesType m) cc
 const_type_alike a b h = apart h refl
 
-pub param_type_alike : (a b : ParamType) → param_type_shape a ≡ param_type_shape b → Alike (param_type_steps a) (param_type_steps b)
+pub param_type_alike : (a b : ParamType) → param_type_shape a ≡ param_type_shape b
+    → Alike (param_type_steps a) (param_type_steps b)
 param_type_alike (ParamTypes.Plain t) (ParamTypes.Plain u) h = const_type_alike t u cc
 param_type_alike ParamTypes.Object ParamTypes.Object h = none
 param_type_alike a b h = apart h refl
 
-simple_type_alike : (a b : SimpleType) → simple_type_shape a ≡ simple_type_shape b → Alike (simple_type_steps a) (simple_type_steps b)
+simple_type_alike : (a b : SimpleType) → simple_type_shape a ≡ simple_type_shape b
+    → Alike (simple_type_steps a) (simple_type_steps b)
 simple_type_alike (Plain t) (Plain u) h = param_type_alike t u cc
-simple_type_alike (Sequence' p e bound) (Sequence' q f other) h = joined (simple_type_alike e f cc) (bounds_alike bound other cc)
+simple_type_alike (Sequence' p e bound) (Sequence' q f other) h =
+    joined (simple_type_alike e f cc) (bounds_alike bound other cc)
 simple_type_alike a b h = apart h refl
 
 label_alike : (a b : Label) → label_shape a ≡ label_shape b → Alike (label_steps a) (label_steps b)
@@ -62,17 +67,20 @@ label_alike a b h = apart h refl
 
 -- ---- declarators
 
-size_alike : (a b : ConstExpr) → const_expr_shape a ≡ const_expr_shape b → step_shape (size_step a) ≡ step_shape (size_step b)
+size_alike : (a b : ConstExpr) → const_expr_shape a ≡ const_expr_shape b
+    → step_shape (size_step a) ≡ step_shape (size_step b)
 size_alike a b h = cc
 
-sizes_alike : (a b : Declarator) → declarator_shape a ≡ declarator_shape b → Alike (map size_step a.sizes.items) (map size_step b.sizes.items)
+sizes_alike : (a b : Declarator) → declarator_shape a ≡ declarator_shape b
+    → Alike (map size_step a.sizes.items) (map size_step b.sizes.items)
 sizes_alike a b h = map_alike const_expr_shape size_step size_step size_alike a.sizes.items b.sizes.items cc
 
 pub typedef_alike : (t u : TypeSpec) → type_shape t ≡ type_shape u
     → (a b : Declarator) → declarator_shape a ≡ declarator_shape b → Alike (typedef_steps t a) (typedef_steps u b)
 typedef_alike t u k a b h = led (DeclaresTypedef t a) (DeclaresTypedef u b) (cc) (sizes_alike a b h)
 
-declarator_alike : (a b : Declarator) → declarator_shape a ≡ declarator_shape b → Alike (declarator_steps a) (declarator_steps b)
+declarator_alike : (a b : Declarator) → declarator_shape a ≡ declarator_shape b
+    → Alike (declarator_steps a) (declarator_steps b)
 declarator_alike a b h = led (HasMember a.identifier) (HasMember b.identifier) (cc) (sizes_alike a b h)
 
 declarators_alike : (a b : Listed Declarator) → listed_shape declarator_shape a ≡ listed_shape declarator_shape b
@@ -88,7 +96,8 @@ labels_alike = flat_parts label_shape label_steps label_steps label_alike
 pub enum_alike : (a b : EnumType) → enum_shape a ≡ enum_shape b → Alike (enum_steps a) (enum_steps b)
 enum_alike a b h =
     led (DeclaresEnum a.identifier) (DeclaresEnum b.identifier) (cc)
-    (map_parts leaf_shape DeclaresEnumerator DeclaresEnumerator (λ l m k. cc) a.enumerators.value b.enumerators.value cc)
+    (map_parts leaf_shape DeclaresEnumerator DeclaresEnumerator (λ l m k. cc) a.enumerators.value b.enumerators.value
+    cc)
 
 switch_alike : (a b : SwitchType) → switch_shape a ≡ switch_shape b → Alike (switch_steps a) (switch_steps b)
 switch_alike (SwitchTypes.Enum e) (SwitchTypes.Enum f) h = enum_alike e f cc
@@ -115,7 +124,8 @@ mutual
 
   pub struct_alike : (a b : StructType) → struct_shape a ≡ struct_shape b → Alike (struct_steps a) (struct_steps b)
   struct_alike (StructType' l p t ds form rest) (StructType' m q u es form' rest') h =
-      joined (joined (joined (opening_alike Kinds.Struct l m cc) (joined (type_alike t u cc) (declarators_alike ds es cc)))
+      joined (joined (joined (opening_alike Kinds.Struct l m cc)
+      (joined (type_alike t u cc) (declarators_alike ds es cc)))
       (members_alike rest rest' cc)) left
 
   pub union_alike : (a b : UnionType) → union_shape a ≡ union_shape b → Alike (union_steps a) (union_steps b)
@@ -124,17 +134,21 @@ mutual
       (joined (joined (labels_alike ls ms cc) (type_alike t u cc)) (declarator_alike d e cc)))
       (cases_alike rest rest' cc)) left
 
-  members_alike : {n k : _} (a : Row_of-Member n) (b : Row_of-Member k) → members_shape a ≡ members_shape b → Alike (members_steps a) (members_steps b)
+  members_alike : {n k : _} (a : Row_of-Member n) (b : Row_of-Member k) → members_shape a ≡ members_shape b
+      → Alike (members_steps a) (members_steps b)
   members_alike end_of-Member end_of-Member h = none
   members_alike (more_of-Member t ds rest) (more_of-Member u es rest') h =
       joined (joined (type_alike t u cc) (declarators_alike ds es cc)) (members_alike rest rest' cc)
   members_alike a b h = absurd cc
 
-  cases_alike : {n k : _} (a : Row_of-Case n) (b : Row_of-Case k) → cases_shape a ≡ cases_shape b → Alike (cases_steps a) (cases_steps b)
+  cases_alike : {n k : _} (a : Row_of-Case n) (b : Row_of-Case k) → cases_shape a ≡ cases_shape b
+      → Alike (cases_steps a) (cases_steps b)
   cases_alike end_of-Case end_of-Case h = none
   cases_alike (more_of-Case ls t d rest) (more_of-Case ms u e rest') h =
-      joined (joined (joined (labels_alike ls ms cc) (type_alike t u cc)) (declarator_alike d e cc)) (cases_alike rest rest' cc)
+      joined (joined (joined (labels_alike ls ms cc) (type_alike t u cc)) (declarator_alike d e cc))
+      (cases_alike rest rest' cc)
   cases_alike a b h = absurd cc
 
 pub member_alike : (a b : Member) → member_shape a ≡ member_shape b → Alike (member_steps a) (member_steps b)
-member_alike a b h = joined (type_alike a.member_type b.member_type cc) (declarators_alike a.declarators b.declarators cc)
+member_alike a b h = joined (type_alike a.member_type b.member_type cc)
+    (declarators_alike a.declarators b.declarators cc)

@@ -45,29 +45,35 @@ under : {A B E : Type 0} (x : Result A E) (f g : A → Result B E) → ((v : A) 
 under (Ok v) f g h = h v
 under (Err fault) f g h = refl
 
-pub bind_same : {A B E : Type 0} (x y : Result A E) (f g : A → Result B E) → x ≡ y → ((v : A) → f v ≡ g v) → (x >> f) ≡ (y >> g)
+pub bind_same : {A B E : Type 0} (x y : Result A E) (f g : A → Result B E) → x ≡ y → ((v : A) → f v ≡ g v)
+    → (x >> f) ≡ (y >> g)
 bind_same x y f g h k = ap (λ r. r >> f) h ∙ under y f g k
 
 -- ---- names
 
-pub resolved_same : (es : List Entry) (scope : ℕ) (a b : ScopedName) → name_shape a ≡ name_shape b → resolved es scope a ≡ resolved es scope b
+pub resolved_same : (es : List Entry) (scope : ℕ) (a b : ScopedName) → name_shape a ≡ name_shape b
+    → resolved es scope a ≡ resolved es scope b
 resolved_same es scope a b h = ap₂ (found_at es) (name_at a b h) (sees_same es scope a b h)
 
-pub found_same : (wanted : EntryKind → Bool) (es : List Entry) (scope : ℕ) (a b : ScopedName) → name_shape a ≡ name_shape b
+pub found_same : (wanted : EntryKind → Bool) (es : List Entry) (scope : ℕ) (a b : ScopedName)
+    → name_shape a ≡ name_shape b
     → found_of wanted es scope a ≡ found_of wanted es scope b
 found_same wanted es scope a b h =
     bind_same (resolved es scope a) (resolved es scope b) _ _ (resolved_same es scope a b h)
-    (λ e. ap (λ p. (if is_of wanted (slice_get es e) then Ok tt else Err (NotAType p (kind_in (slice_get es e))))) (name_at a b h))
+    (λ e. ap (λ p. (if is_of wanted (slice_get es e) then Ok tt else Err (NotAType p (kind_in (slice_get es e)))))
+    (name_at a b h))
 
 -- ---- expressions
 
-constant_same : (es : List Entry) (scope : ℕ) (a b : ScopedName) → name_shape a ≡ name_shape b → constant_test es scope a ≡ constant_test es scope b
+constant_same : (es : List Entry) (scope : ℕ) (a b : ScopedName) → name_shape a ≡ name_shape b
+    → constant_test es scope a ≡ constant_test es scope b
 constant_same es scope a b h =
     bind_same (resolved es scope a) (resolved es scope b) _ _ (resolved_same es scope a b h)
     (λ e. ap (λ p. or_bad NoConstant p (worth_in (slice_get es e)) >> λ c. Ok tt) (name_at a b h))
 
 mutual
-  names_same : (es : List Entry) (scope : ℕ) (a b : Expr) → expr_shape a ≡ expr_shape b → names_test es scope a ≡ names_test es scope b
+  names_same : (es : List Entry) (scope : ℕ) (a b : Expr) → expr_shape a ≡ expr_shape b
+      → names_test es scope a ≡ names_test es scope b
   names_same es scope (Name n) (Name m) h = constant_same es scope n m cc
   names_same es scope (Number l) (Number m) h = refl
   names_same es scope (Character l) (Character m) h = refl
@@ -77,33 +83,41 @@ mutual
   names_same es scope (Signed' l s p inner) (Signed' m t q other) h = names_same es scope inner other cc
   names_same es scope (Chain' p first form rest) (Chain' q other form' more) h =
       let k : operands_test es scope rest ≡ operands_test es scope more = operands_same es scope rest more cc in
-      bind_same (names_test es scope first) (names_test es scope other) (λ u. operands_test es scope rest) (λ u. operands_test es scope more)
+      bind_same (names_test es scope first) (names_test es scope other) (λ u. operands_test es scope rest)
+      (λ u. operands_test es scope more)
       (names_same es scope first other cc) (λ u. k)
   names_same es scope a b h = apart h refl
 
-  operands_same : {n k : _} (es : List Entry) (scope : ℕ) (a : Row_of-Operand n) (b : Row_of-Operand k) → operands_shape a ≡ operands_shape b
+  operands_same : {n k : _} (es : List Entry) (scope : ℕ) (a : Row_of-Operand n) (b : Row_of-Operand k)
+      → operands_shape a ≡ operands_shape b
       → operands_test es scope a ≡ operands_test es scope b
   operands_same es scope end_of-Operand end_of-Operand h = refl
   operands_same es scope (more_of-Operand o inner rest) (more_of-Operand p other more) h =
       let k : operands_test es scope rest ≡ operands_test es scope more = operands_same es scope rest more cc in
-      bind_same (names_test es scope inner) (names_test es scope other) (λ u. operands_test es scope rest) (λ u. operands_test es scope more)
+      bind_same (names_test es scope inner) (names_test es scope other) (λ u. operands_test es scope rest)
+      (λ u. operands_test es scope more)
       (names_same es scope inner other cc) (λ u. k)
   operands_same es scope a b h = absurd cc
 
-in_scope_same : (es : List Entry) (scope : ℕ) (a b : Expr) → expr_shape a ≡ expr_shape b → worth_in_scope es scope a ≡ worth_in_scope es scope b
-in_scope_same es scope a b h = worth_same (named_worth es scope) (λ n m k. ap (worth_found es) (finds_same es scope n m k)) a b h
+in_scope_same : (es : List Entry) (scope : ℕ) (a b : Expr) → expr_shape a ≡ expr_shape b
+    → worth_in_scope es scope a ≡ worth_in_scope es scope b
+in_scope_same es scope a b h =
+    worth_same (named_worth es scope) (λ n m k. ap (worth_found es) (finds_same es scope n m k)) a b h
 
-pub value_same : (es : List Entry) (scope : ℕ) (a b : Expr) → expr_shape a ≡ expr_shape b → value_read es scope a ≡ value_read es scope b
+pub value_same : (es : List Entry) (scope : ℕ) (a b : Expr) → expr_shape a ≡ expr_shape b
+    → value_read es scope a ≡ value_read es scope b
 value_same es scope a b h =
     bind_same (names_test es scope a) (names_test es scope b) _ _ (names_same es scope a b h)
     (λ u. ap₂ (or_bad NoWorth) (expr_at a b h) (in_scope_same es scope a b h))
 
-pub size_same : (es : List Entry) (scope : ℕ) (a b : Expr) → expr_shape a ≡ expr_shape b → size_read es scope a ≡ size_read es scope b
+pub size_same : (es : List Entry) (scope : ℕ) (a b : Expr) → expr_shape a ≡ expr_shape b
+    → size_read es scope a ≡ size_read es scope b
 size_same es scope a b h =
     bind_same (value_read es scope a) (value_read es scope b) _ _ (value_same es scope a b h)
     (λ c. ap (λ p. or_bad NotPositive p (positive (whole_number (Some c)))) (expr_at a b h))
 
-pub of_type_same : (kind other : Option ConstKind) → kind ≡ other → (es : List Entry) (scope : ℕ) (a b : Expr) → expr_shape a ≡ expr_shape b
+pub of_type_same : (kind other : Option ConstKind) → kind ≡ other → (es : List Entry) (scope : ℕ) (a b : Expr)
+    → expr_shape a ≡ expr_shape b
     → value_of_type kind es scope a ≡ value_of_type other es scope b
 of_type_same kind other e es scope a b h =
     bind_same (value_read es scope a) (value_read es scope b) _ _ (value_same es scope a b h)
@@ -122,15 +136,18 @@ integer_same (Signed s) (Signed r) h = ap Signed (integer_size_same s r cc)
 integer_same (Unsigned s) (Unsigned r) h = ap Unsigned (integer_size_same s r cc)
 integer_same a b h = apart h refl
 
-string_same : (es : List Entry) (scope : ℕ) (a b : Option Bound) → optional_shape bound_shape a ≡ optional_shape bound_shape b
+string_same : (es : List Entry) (scope : ℕ) (a b : Option Bound)
+    → optional_shape bound_shape a ≡ optional_shape bound_shape b
     → string_kind es scope a ≡ string_kind es scope b
 string_same es scope None None h = refl
-string_same es scope (Some a) (Some b) h = ap (λ r. Kinds.String (known r)) (size_same es scope a.expr.value b.expr.value cc)
+string_same es scope (Some a) (Some b) h =
+    ap (λ r. Kinds.String (known r)) (size_same es scope a.expr.value b.expr.value cc)
 string_same es scope a b h = absurd cc
 
 pub const_kind_same : (es : List Entry) (scope : ℕ) (a b : ConstType) → const_type_shape a ≡ const_type_shape b
     → const_type_kind es scope a ≡ const_type_kind es scope b
-const_kind_same es scope (ConstTypes.Integer i) (ConstTypes.Integer j) h = ap (λ k. Some (Kinds.Integer k)) (integer_same i j cc)
+const_kind_same es scope (ConstTypes.Integer i) (ConstTypes.Integer j) h =
+    ap (λ k. Some (Kinds.Integer k)) (integer_same i j cc)
 const_kind_same es scope ConstTypes.Char ConstTypes.Char h = refl
 const_kind_same es scope ConstTypes.Boolean ConstTypes.Boolean h = refl
 const_kind_same es scope ConstTypes.Octet ConstTypes.Octet h = refl
@@ -155,20 +172,26 @@ simple_kind_same es scope a b h = apart h refl
 abbrev typedef_at : ℕ → Option ConstKind → Meaning
 typedef_at token kind = record { token = token; kind = Typedef; worth = None; stands_for = kind }
 
-pub typedef_meant_same : (kind other : Option ConstKind) → kind ≡ other → (a b : Declarator) → declarator_shape a ≡ declarator_shape b
+pub typedef_meant_same : (kind other : Option ConstKind) → kind ≡ other → (a b : Declarator)
+    → declarator_shape a ≡ declarator_shape b
     → typedef_meant kind a ≡ typedef_meant other b
 typedef_meant_same kind other e a b h =
     ap₂ typedef_at (leaf_number a.identifier b.identifier cc)
     (ap₂ (λ n k. cond (nat_lt 0 n) None k) (length_same const_expr_shape a.sizes.items b.sizes.items cc) e)
 
 pub enum_meant_same : (n : ℕ) (a b : Leaf) → leaf_shape a ≡ leaf_shape b → enum_meant n a ≡ enum_meant n b
-enum_meant_same n a b h = ap (λ t. record { token = t; kind = Enum; worth = None; stands_for = Some (Kinds.Enum n) }) (leaf_number a b h)
+enum_meant_same n a b h = ap (λ t. record { token = t; kind = Enum; worth = None; stands_for = Some (Kinds.Enum n) })
+    (leaf_number a b h)
 
-pub enumerator_meant_same : (owner n : ℕ) (a b : Leaf) → leaf_shape a ≡ leaf_shape b → enumerator_meant owner n a ≡ enumerator_meant owner n b
+pub enumerator_meant_same : (owner n : ℕ) (a b : Leaf) → leaf_shape a ≡ leaf_shape b
+    → enumerator_meant owner n a ≡ enumerator_meant owner n b
 enumerator_meant_same owner n a b h =
-    ap (λ t. record { token = t; kind = Enumerator; worth = Some (Constants.Enumerator n owner); stands_for = None }) (leaf_number a b h)
+    ap (λ t. record { token = t; kind = Enumerator; worth = Some (Constants.Enumerator n owner); stands_for = None })
+    (leaf_number a b h)
 
-pub const_meant_same : (worth : Constant) (a b : Const) → const_shape a ≡ const_shape b → const_meant a worth ≡ const_meant b worth
+pub const_meant_same : (worth : Constant) (a b : Const) → const_shape a ≡ const_shape b
+    → const_meant a worth ≡ const_meant b worth
 const_meant_same worth a b h =
-    ap₂ (λ t n. record { token = t + 2 + n; kind = Const'; worth = Some worth; stands_for = None }) (leaf_number a.identifier b.identifier cc)
+    ap₂ (λ t n. record { token = t + 2 + n; kind = Const'; worth = Some worth; stands_for = None })
+    (leaf_number a.identifier b.identifier cc)
     (ap length (expr_pieces a.value.expr b.value.expr cc))

@@ -21,7 +21,8 @@ use Rattle.shape_laws.proofs.Starts.{leaf_text, name_at}
 
 -- ---- what a definition says of equal values
 
-pub ap₃ : {A B C D : Type 0} (f : A → B → C → D) {a a' : A} {b b' : B} {c c' : C} → a ≡ a' → b ≡ b' → c ≡ c' → f a b c ≡ f a' b' c'
+pub ap₃ : {A B C D : Type 0} (f : A → B → C → D) {a a' : A} {b b' : B} {c c' : C} → a ≡ a' → b ≡ b' → c ≡ c'
+    → f a b c ≡ f a' b' c'
 ap₃ f h k l = cc
 
 pub ap₄ : {A B C D E : Type 0} (f : A → B → C → D → E) {a a' : A} {b b' : B} {c c' : C} {d d' : D}
@@ -42,7 +43,8 @@ flat_same part f same [] [] h = refl
 flat_same part f same (x ∷ xs) (y ∷ ys) h = ap₂ (λ us vs. us ++ vs) (same x y cc) (flat_same part f same xs ys cc)
 flat_same part f same xs ys h = absurd cc
 
-pub length_same : {A : Type 0} (part : A → Shape) (xs ys : List A) → list_shape part xs ≡ list_shape part ys → length xs ≡ length ys
+pub length_same : {A : Type 0} (part : A → Shape) (xs ys : List A) → list_shape part xs ≡ list_shape part ys
+    → length xs ≡ length ys
 length_same part [] [] h = refl
 length_same part (x ∷ xs) (y ∷ ys) h = ap suc (length_same part xs ys cc)
 length_same part xs ys h = absurd cc
@@ -129,9 +131,11 @@ rest_same (Scoped p) (Scoped q) h = map_same leaf_shape word word_same p.value.r
 rest_same a b h = apart h refl
 
 -- names of one shape see the same
-pub sees_same : (es : List Entry) (scope : ℕ) (a b : ScopedName) → name_shape a ≡ name_shape b → sees es scope a ≡ sees es scope b
+pub sees_same : (es : List Entry) (scope : ℕ) (a b : ScopedName) → name_shape a ≡ name_shape b
+    → sees es scope a ≡ sees es scope b
 sees_same es scope a b h =
     ap₄ (λ n. sees_words es n scope) (name_number a b h) (rooted_same a b h) (first_same a b h) (rest_same a b h)
 
-pub finds_same : (es : List Entry) (scope : ℕ) (a b : ScopedName) → name_shape a ≡ name_shape b → finds es scope a ≡ finds es scope b
+pub finds_same : (es : List Entry) (scope : ℕ) (a b : ScopedName) → name_shape a ≡ name_shape b
+    → finds es scope a ≡ finds es scope b
 finds_same es scope a b h = ap found_by (sees_same es scope a b h)

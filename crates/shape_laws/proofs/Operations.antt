@@ -61,22 +61,27 @@ result_of : (a b : Operation) → operation_shape a ≡ operation_shape b
     → optional_shape param_type_shape a.result_type ≡ optional_shape param_type_shape b.result_type
 result_of a b h = cc
 
-params_of : (a b : Operation) → operation_shape a ≡ operation_shape b → list_shape param_shape (parts_of a.params) ≡ list_shape param_shape (parts_of b.params)
+params_of : (a b : Operation) → operation_shape a ≡ operation_shape b
+    → list_shape param_shape (parts_of a.params) ≡ list_shape param_shape (parts_of b.params)
 params_of a b h =
-    let params : optional_shape (listed_shape param_shape) a.params ≡ optional_shape (listed_shape param_shape) b.params = cc in
+    let params : optional_shape (listed_shape param_shape) a.params
+    ≡ optional_shape (listed_shape param_shape) b.params = cc in
     parts_of_shape param_shape a.params b.params params
 
-raises_of : (a b : Operation) → operation_shape a ≡ operation_shape b → optional_shape names_shape a.raises ≡ optional_shape names_shape b.raises
+raises_of : (a b : Operation) → operation_shape a ≡ operation_shape b
+    → optional_shape names_shape a.raises ≡ optional_shape names_shape b.raises
 raises_of a b h = cc
 
 -- ---- which are oneway
 
-result_answer_same : (a b : Option ParamType) → optional_shape param_type_shape a ≡ optional_shape param_type_shape b → result_answer a ≡ result_answer b
+result_answer_same : (a b : Option ParamType) → optional_shape param_type_shape a ≡ optional_shape param_type_shape b
+    → result_answer a ≡ result_answer b
 result_answer_same None None h = refl
 result_answer_same (Some a) (Some b) h = refl
 result_answer_same a b h = absurd cc
 
-param_answer_same : (a b : List Param) → list_shape param_shape a ≡ list_shape param_shape b → param_answer a ≡ param_answer b
+param_answer_same : (a b : List Param) → list_shape param_shape a ≡ list_shape param_shape b
+    → param_answer a ≡ param_answer b
 param_answer_same [] [] h = refl
 param_answer_same (x ∷ xs) (y ∷ ys) h =
     let directions : direction_shape x.direction ≡ direction_shape y.direction = cc in
@@ -86,7 +91,8 @@ param_answer_same (x ∷ xs) (y ∷ ys) h =
     else Some (Parameter (leaf_same x.identifier y.identifier names i)))
 param_answer_same a b h = absurd cc
 
-raises_answer_same : (a b : Option (Listed ScopedName)) → optional_shape names_shape a ≡ optional_shape names_shape b → raises_answer a ≡ raises_answer b
+raises_answer_same : (a b : Option (Listed ScopedName)) → optional_shape names_shape a ≡ optional_shape names_shape b
+    → raises_answer a ≡ raises_answer b
 raises_answer_same None None h = refl
 raises_answer_same (Some a) (Some b) h = refl
 raises_answer_same a b h = absurd cc
@@ -98,7 +104,8 @@ answer_same a b h =
     let raises = raises_answer_same a.raises b.raises (raises_of a b h) in
     λ i. option_or (result i) (option_or (params i) (raises i))
 
-answer_test_same : (a b : Operation) → operation_shape a ≡ operation_shape b → (x : Option Answer) → answer_test a x ≡ answer_test b x
+answer_test_same : (a b : Operation) → operation_shape a ≡ operation_shape b → (x : Option Answer)
+    → answer_test a x ≡ answer_test b x
 answer_test_same a b h None = refl
 answer_test_same a b h (Some answer) = λ i. Err (Types (BadOneway (place_at a b h i) answer))
 
@@ -109,50 +116,64 @@ oneway_same a b h =
 
 -- ---- what is carried
 
-with_param_same : (es : List Entry) (scope : ℕ) (c : _) (a b : Param) → param_shape a ≡ param_shape b → with_param es scope c a ≡ with_param es scope c b
+with_param_same : (es : List Entry) (scope : ℕ) (c : _) (a b : Param) → param_shape a ≡ param_shape b
+    → with_param es scope c a ≡ with_param es scope c b
 with_param_same es scope c a b h =
     let types : param_type_shape a.param_type ≡ param_type_shape b.param_type = cc in
     let directions : direction_shape a.direction ≡ direction_shape b.direction = cc in
     let names : leaf_shape a.identifier ≡ leaf_shape b.identifier = cc in
     λ i. param_type_same es c.types scope a.param_type b.param_type types i >> λ t.
-    with_carried c.carried (word_same a.identifier b.identifier names i) (direction_same a.direction b.direction directions i) t.number (leaf_same a.identifier b.identifier names i) >> λ more.
+    with_carried c.carried (word_same a.identifier b.identifier names i)
+    (direction_same a.direction b.direction directions i) t.number (leaf_same a.identifier b.identifier names i) >>
+    λ more.
     Ok (carrying t.lowered more)
 
 result_carried_same : (es : List Entry) (w : Lowered) (scope : ℕ) (at to : At) → at ≡ to → (a b : Option ParamType)
-    → optional_shape param_type_shape a ≡ optional_shape param_type_shape b → result_carried es w scope at a ≡ result_carried es w scope to b
+    → optional_shape param_type_shape a ≡ optional_shape param_type_shape b
+    → result_carried es w scope at a ≡ result_carried es w scope to b
 result_carried_same es w scope at to p None None h = refl
 result_carried_same es w scope at to p (Some a) (Some b) h =
     let types : param_type_shape a ≡ param_type_shape b = cc in
-    λ i. param_type_same es w scope a b types i >> λ t. with_carried nothing_carried result_name Out t.number (p i) >> λ c. Ok (carrying t.lowered c)
+    λ i. param_type_same es w scope a b types i >> λ t. with_carried nothing_carried result_name Out t.number (p i) >>
+    λ c. Ok (carrying t.lowered c)
 result_carried_same es w scope at to p a b h = absurd cc
 
 carried_same : (es : List Entry) (w : Lowered) (scope : ℕ) (a b : Operation) → operation_shape a ≡ operation_shape b
     → all_carried es w scope a ≡ all_carried es w scope b
 carried_same es w scope a b h =
     λ i. result_carried_same es w scope _ _ (place_at a b h) a.result_type b.result_type (result_of a b h) i >> λ c.
-    each_same param_shape (with_param es scope) (with_param es scope) (with_param_same es scope) c (parts_of a.params) (parts_of b.params) (params_of a b h) i
+    each_same param_shape (with_param es scope) (with_param es scope) (with_param_same es scope) c (parts_of a.params)
+    (parts_of b.params) (params_of a b h) i
 
 -- ---- what is raised
 
-with_exception_same : (es : List Entry) (w : Lowered) (scope : ℕ) (places : List ℕ) (a b : ScopedName) → name_shape a ≡ name_shape b
+with_exception_same : (es : List Entry) (w : Lowered) (scope : ℕ) (places : List ℕ) (a b : ScopedName)
+    → name_shape a ≡ name_shape b
     → with_exception es w scope places a ≡ with_exception es w scope places b
 with_exception_same es w scope places a b h =
     λ i. (entry_found_same es scope a b h i >> λ e. exception_in (place_of w e)) >> λ place. Ok (places ++ place ∷ [])
 
-raised_same : (es : List Entry) (w : Lowered) (scope : ℕ) (a b : List ScopedName) → list_shape name_shape a ≡ list_shape name_shape b
+raised_same : (es : List Entry) (w : Lowered) (scope : ℕ) (a b : List ScopedName)
+    → list_shape name_shape a ≡ list_shape name_shape b
     → raised es w scope a ≡ raised es w scope b
-raised_same es w scope a b h = each_same name_shape (with_exception es w scope) (with_exception es w scope) (with_exception_same es w scope) [] a b h
+raised_same es w scope a b h =
+    each_same name_shape (with_exception es w scope) (with_exception es w scope) (with_exception_same es w scope) [] a b
+    h
 
 -- ---- operations
 
-with_operation_same : (es : List Entry) (scope : ℕ) (d : Defined) (c : _) (a b : Operation) → operation_shape a ≡ operation_shape b
+with_operation_same : (es : List Entry) (scope : ℕ) (d : Defined) (c : _) (a b : Operation)
+    → operation_shape a ≡ operation_shape b
     → with_operation es scope d c a ≡ with_operation es scope d c b
 with_operation_same es scope d c a b h =
-    λ i. raised_same es d.types scope (parts_of a.raises) (parts_of b.raises) (parts_of_shape name_shape a.raises b.raises (raises_of a b h)) i >> λ raises.
+    λ i. raised_same es d.types scope (parts_of a.raises) (parts_of b.raises)
+    (parts_of_shape name_shape a.raises b.raises (raises_of a b h)) i >> λ raises.
     entry_same es scope a.identifier b.identifier (name_of a b h) i >> λ e.
-    with_call d c (oneway_of a b h i) raises Roles.Operation e (place_at a b h i) >> λ r. with_place r.defined e (Called r.request)
+    with_call d c (oneway_of a b h i) raises Roles.Operation e (place_at a b h i) >> λ r. with_place r.defined e
+    (Called r.request)
 
-pub operation_same : (es : List Entry) (scope : ℕ) (d : Defined) (a b : Operation) → operation_shape a ≡ operation_shape b
+pub operation_same : (es : List Entry) (scope : ℕ) (d : Defined) (a b : Operation)
+    → operation_shape a ≡ operation_shape b
     → operation es scope d a ≡ operation es scope d b
 operation_same es scope d a b h =
     λ i. oneway_same a b h i >> λ u. carried_same es d.types scope a b h i >> λ c.
@@ -167,14 +188,16 @@ is_set_same (Get l a s) (Get m b t) h = refl
 is_set_same (Set l a) (Set m b) h = refl
 is_set_same a b h = apart h refl
 
-get_raises_shape : (a b : Attributes) → attributes_shape a ≡ attributes_shape b → list_shape name_shape (get_raises a) ≡ list_shape name_shape (get_raises b)
+get_raises_shape : (a b : Attributes) → attributes_shape a ≡ attributes_shape b
+    → list_shape name_shape (get_raises a) ≡ list_shape name_shape (get_raises b)
 get_raises_shape (Silent a l) (Silent b m) h = refl
 get_raises_shape (Readonly l a) (Readonly m b) h = cc
 get_raises_shape (Get l a s) (Get m b t) h = cc
 get_raises_shape (Set l a) (Set m b) h = refl
 get_raises_shape a b h = apart h refl
 
-set_raises_shape : (a b : Attributes) → attributes_shape a ≡ attributes_shape b → list_shape name_shape (set_raises a) ≡ list_shape name_shape (set_raises b)
+set_raises_shape : (a b : Attributes) → attributes_shape a ≡ attributes_shape b
+    → list_shape name_shape (set_raises a) ≡ list_shape name_shape (set_raises b)
 set_raises_shape (Silent a l) (Silent b m) h = refl
 set_raises_shape (Readonly l a) (Readonly m b) h = refl
 set_raises_shape (Get l a s) (Get m b t) h = parts_of_shape name_shape s t cc
@@ -190,7 +213,8 @@ identifiers_shape (Set l a) (Set m b) h = cc
 identifiers_shape a b h = apart h refl
 
 with_attribute_same : (es : List Entry) (scope number : ℕ) (a b : Attributes) → attributes_shape a ≡ attributes_shape b
-    → (d : Defined) (l m : Leaf) → leaf_shape l ≡ leaf_shape m → with_attribute es scope number a d l ≡ with_attribute es scope number b d m
+    → (d : Defined) (l m : Leaf) → leaf_shape l ≡ leaf_shape m
+    → with_attribute es scope number a d l ≡ with_attribute es scope number b d m
 with_attribute_same es scope number a b h d l m k =
     let at = leaf_same l m k in
     λ i. raised_same es d.types scope (get_raises a) (get_raises b) (get_raises_shape a b h) i >> λ get.
@@ -198,7 +222,8 @@ with_attribute_same es scope number a b h d l m k =
     entry_same es scope l m k i >> λ e. with_get d number get e (at i) >> λ got.
     with_access got (word_same l m k i) number (is_set_same a b h i) set e (at i)
 
-pub attribute_same : (es : List Entry) (scope : ℕ) (d : Defined) (a b : Attribute) → attribute_shape a ≡ attribute_shape b
+pub attribute_same : (es : List Entry) (scope : ℕ) (d : Defined) (a b : Attribute)
+    → attribute_shape a ≡ attribute_shape b
     → attribute es scope d a ≡ attribute es scope d b
 attribute_same es scope d a b h =
     let types : param_type_shape a.attribute_type ≡ param_type_shape b.attribute_type = cc in
@@ -206,4 +231,5 @@ attribute_same es scope d a b h =
     λ i. param_type_same es d.types scope a.attribute_type b.attribute_type types i >> λ t.
     each_same leaf_shape (with_attribute es scope t.number a.declared) (with_attribute es scope t.number b.declared)
     (with_attribute_same es scope t.number a.declared b.declared declared) (with_types d t.lowered)
-    (attribute_identifiers a.declared) (attribute_identifiers b.declared) (identifiers_shape a.declared b.declared declared) i
+    (attribute_identifiers a.declared) (attribute_identifiers b.declared)
+    (identifiers_shape a.declared b.declared declared) i

@@ -21,18 +21,21 @@ use Rattle.shape_laws.proofs.TypeParts.{entry_same}
 
 -- ---- interfaces
 
-declared_same : (es : List Entry) (scope : ℕ) (d : Defined) (a b : Declaration) → declaration_shape a ≡ declaration_shape b
+declared_same : (es : List Entry) (scope : ℕ) (d : Defined) (a b : Declaration)
+    → declaration_shape a ≡ declaration_shape b
     → declared es scope d a ≡ declared es scope d b
 declared_same es scope d a b h = λ i. declaration_same es d.types scope a b h i >> λ w. Ok (with_types d w)
 
-export_same : (es : List Entry) (scope : ℕ) (d : Defined) (a b : Export) → export_shape a ≡ export_shape b → export es scope d a ≡ export es scope d b
+export_same : (es : List Entry) (scope : ℕ) (d : Defined) (a b : Export) → export_shape a ≡ export_shape b
+    → export es scope d a ≡ export es scope d b
 export_same es scope d (Exports.Pragma a) (Exports.Pragma b) h = refl
 export_same es scope d (Exports.Declaration a) (Exports.Declaration b) h = declared_same es scope d a b cc
 export_same es scope d (Exports.Attribute a) (Exports.Attribute b) h = attribute_same es scope d a b cc
 export_same es scope d (Exports.Operation a) (Exports.Operation b) h = operation_same es scope d a b cc
 export_same es scope d a b h = apart h refl
 
-identifier_shape : (a b : Interface) → interface_shape a ≡ interface_shape b → leaf_shape (identifier_of a) ≡ leaf_shape (identifier_of b)
+identifier_shape : (a b : Interface) → interface_shape a ≡ interface_shape b
+    → leaf_shape (identifier_of a) ≡ leaf_shape (identifier_of b)
 identifier_shape (Ahead l) (Ahead m) h = cc
 identifier_shape (Body l bases exports) (Body m others more) h = cc
 identifier_shape a b h = apart h refl
@@ -44,11 +47,13 @@ exports_shape (Body l bases exports) (Body m others more) h = cc
 exports_shape a b h = apart h refl
 
 interface_as_same : (es : List Entry) (d : Defined) (e : ℕ) (a b : Option (List Export))
-    → optional_shape (list_shape export_shape) a ≡ optional_shape (list_shape export_shape) b → interface_as es d e a ≡ interface_as es d e b
+    → optional_shape (list_shape export_shape) a ≡ optional_shape (list_shape export_shape) b
+    → interface_as es d e a ≡ interface_as es d e b
 interface_as_same es d e None None h = refl
 interface_as_same es d e (Some xs) (Some ys) h =
     let exports : list_shape export_shape xs ≡ list_shape export_shape ys = cc in
-    λ i. as_reference d e >> λ r. each_same export_shape (export es (e + 1)) (export es (e + 1)) (export_same es (e + 1)) r xs ys exports i >> λ b.
+    λ i. as_reference d e >> λ r. each_same export_shape (export es (e + 1)) (export es (e + 1))
+    (export_same es (e + 1)) r xs ys exports i >> λ b.
     with_interface b e (offering b (length d.operations) (bases_in (slice_get es e)))
 interface_as_same es d e a b h = absurd cc
 
@@ -61,7 +66,8 @@ interface_same es scope d a b h =
 -- ---- modules and files
 
 mutual
-  definition_same : (es : List Entry) (scope : ℕ) (d : Defined) (a b : Definition) → definition_shape a ≡ definition_shape b
+  definition_same : (es : List Entry) (scope : ℕ) (d : Defined) (a b : Definition)
+      → definition_shape a ≡ definition_shape b
       → definition es scope d a ≡ definition es scope d b
   definition_same es scope d (Pragma a) (Pragma b) h = refl
   definition_same es scope d (Declared a) (Declared b) h = declared_same es scope d a b cc
@@ -72,7 +78,8 @@ mutual
       λ i. entry_same es scope l m names i >> λ e. definitions_same es (e + 1) d a b bodies i
   definition_same es scope d a b h = apart h refl
 
-  definitions_same : {n k : _} (es : List Entry) (scope : ℕ) (d : Defined) (a : Row_of-Definition n) (b : Row_of-Definition k)
+  definitions_same : {n k : _} (es : List Entry) (scope : ℕ) (d : Defined) (a : Row_of-Definition n)
+      (b : Row_of-Definition k)
       → definitions_shape a ≡ definitions_shape b → definitions_after es scope d a ≡ definitions_after es scope d b
   definitions_same es scope d end_of-Definition end_of-Definition h = refl
   definitions_same es scope d (more_of-Definition x rest) (more_of-Definition y more) h =
@@ -81,7 +88,9 @@ mutual
       λ i. definition_same es scope d x y first i >> λ next. definitions_same es scope next rest more rests i
   definitions_same es scope d a b h = absurd cc
 
-pub defined_same : (entries : List Entry) (definitions others : List Definition) → spec_shape definitions ≡ spec_shape others
+pub defined_same : (entries : List Entry) (definitions others : List Definition)
+    → spec_shape definitions ≡ spec_shape others
     → defined_by entries definitions ≡ defined_by entries others
 defined_same entries definitions others h =
-    each_same definition_shape (definition entries 0) (definition entries 0) (definition_same entries 0) (undefined_yet (length entries)) definitions others h
+    each_same definition_shape (definition entries 0) (definition entries 0) (definition_same entries 0)
+    (undefined_yet (length entries)) definitions others h

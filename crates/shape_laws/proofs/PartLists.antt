@@ -12,7 +12,8 @@ abbrev pub Same : {T S : Type 0} → (T → Shape) → (T → S) → (T → S) �
 Same {T = T} part f g = (x y : T) → part x ≡ part y → f x ≡ g y
 
 -- one part behind another
-pub each_same : {S T : Type 0} (part : T → Shape) (f g : S → T → Result S BuildFault) → ((s : S) → Same part (f s) (g s))
+pub each_same : {S T : Type 0} (part : T → Shape) (f g : S → T → Result S BuildFault)
+    → ((s : S) → Same part (f s) (g s))
     → (s : S) → Same (list_shape part) (each f s) (each g s)
 each_same part f g one s [] [] h = refl
 each_same part f g one s (x ∷ xs) (y ∷ ys) h =
@@ -22,7 +23,8 @@ each_same part f g one s (x ∷ xs) (y ∷ ys) h =
 each_same part f g one s xs ys h = absurd cc
 
 -- lists that may be absent
-pub parts_of_shape : {T : Type 0} (part : T → Shape) (a b : Option (Listed T)) → optional_shape (listed_shape part) a ≡ optional_shape (listed_shape part) b
+pub parts_of_shape : {T : Type 0} (part : T → Shape) (a b : Option (Listed T))
+    → optional_shape (listed_shape part) a ≡ optional_shape (listed_shape part) b
     → list_shape part (parts_of a) ≡ list_shape part (parts_of b)
 parts_of_shape part None None h = refl
 parts_of_shape part (Some a) (Some b) h = cc

@@ -28,7 +28,8 @@ leaf_same a b h = token_at _ _ a b h
 pub leaf_text : (a b : Leaf) → leaf_shape a ≡ leaf_shape b → a.token.text.now ≡ b.token.text.now
 leaf_text a b h = cc
 
-root_at : (a b : Option Leaf) (l m : Leaf) → optional_shape root_shape a ≡ optional_shape root_shape b → leaf_shape l ≡ leaf_shape m
+root_at : (a b : Option Leaf) (l m : Leaf) → optional_shape root_shape a ≡ optional_shape root_shape b
+    → leaf_shape l ≡ leaf_shape m
     → leaf_at (root_or a l) ≡ leaf_at (root_or b m)
 root_at None None l m h k = leaf_same l m k
 root_at (Some a) (Some b) l m h k = token_at (codes "::") (codes "::") a b cc

@@ -71,7 +71,8 @@ abbrev pub programs_and_uses : ℕ → (List Routine × List Routine) × List Wh
 programs_and_uses n = spelled_pair (spelled_pair spelled_program spelled_program) (spelled_run n spelled_which)
 
 pub one_rest : (n : ℕ) → HasOne (programs_and_uses n)
-one_rest n = one_pair (spelled_pair spelled_program spelled_program) (spelled_run n spelled_which) one_programs (one_uses n)
+one_rest n = one_pair (spelled_pair spelled_program spelled_program) (spelled_run n spelled_which) one_programs
+    (one_uses n)
 
 pub one_behind : (n : ℕ) → HasOne (spelled_behind n)
 one_behind n = one_pair spelled_declared (programs_and_uses n) one_declared (one_rest n)
@@ -135,7 +136,8 @@ form_code = tagged_code tagged_form (elim [
 one_old : HasOne spelled_old_fields
 one_old =
     one_pair spelled_model_fields spelled_program
-    (one_pair (spelled_list spelled_node) (spelled_pair (spelled_list spelled_name) spelled_declared) (one_list spelled_node)
+    (one_pair (spelled_list spelled_node) (spelled_pair (spelled_list spelled_name) spelled_declared)
+    (one_list spelled_node)
     (one_pair (spelled_list spelled_name) spelled_declared (one_list spelled_name) one_declared))
     (one_list spelled_routine)
 

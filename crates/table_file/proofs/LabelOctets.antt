@@ -22,7 +22,10 @@ label_octets (negsuc n) h =
     label_is (negsuc n) h ∙ ap (λ m. Some (bytes_high_first 16 m)) same
 
 -- as they are read in two halves
-pub label_halves : (z : ℤ) (high low : ℕ) (front back octets : List ℕ) → IsSignedIn 16 z → twos_complement 16 z ≡ high * 2 ^ 64 + low → high < 2 ^ 64 → low < 2 ^ 64
-    → plain_octets Big 8 high ≡ front → plain_octets Big 8 low ≡ back → front ++ back ≡ octets → spelled_label z ≡ Some octets
+pub label_halves : (z : ℤ) (high low : ℕ) (front back octets : List ℕ) → IsSignedIn 16 z
+    → twos_complement 16 z ≡ high * 2 ^ 64 + low → high < 2 ^ 64 → low < 2 ^ 64
+    → plain_octets Big 8 high ≡ front → plain_octets Big 8 low ≡ back → front ++ back ≡ octets
+    → spelled_label z ≡ Some octets
 label_halves z high low front back octets sized pattern h l f b all =
-    label_is z sized ∙ ap (λ m. Some (bytes_high_first 16 m)) pattern ∙ ap Some (halves high low h l ∙ ap₂ (λ x y. x ++ y) f b ∙ all)
+    label_is z sized ∙ ap (λ m. Some (bytes_high_first 16 m)) pattern
+    ∙ ap Some (halves high low h l ∙ ap₂ (λ x y. x ++ y) f b ∙ all)

@@ -121,7 +121,8 @@ flag_each n h =
           ]
     ]
 
-pub flag_only : (flag : Bool) (s : List ℕ) → spelled_flag flag ≡ Some s → (n : ℕ) × (s ≡ n ∷ []) × Contains (0 ∷ 1 ∷ []) n
+pub flag_only : (flag : Bool) (s : List ℕ) → spelled_flag flag ≡ Some s
+    → (n : ℕ) × (s ≡ n ∷ []) × Contains (0 ∷ 1 ∷ []) n
 flag_only false s e = (0, cc, (0, omega arith, refl))
 flag_only true s e = (1, cc, (1, omega arith, refl))
 

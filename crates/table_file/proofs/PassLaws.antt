@@ -215,7 +215,8 @@ module _ {A : Type 0} (f : A → Option (List ℕ)) (k : ℕ)
 module _ {A F : Type 0} {tagged : A → Tagged} {tag : ℕ} {fields : F → Option (List ℕ)} {make : F → A}
     (kind : IsKind tagged tag fields make) where
   -- behind its tag a kind is passed by its fields
-  pub kind_passes : (Is : ℕ → Type 0) (n : ℕ) (b : Bool) (old mid new : List ℕ) → n ≡ tag → PassesOne Is (Some n) old mid
+  pub kind_passes : (Is : ℕ → Type 0) (n : ℕ) (b : Bool) (old mid new : List ℕ) → n ≡ tag
+      → PassesOne Is (Some n) old mid
       → Passes fields b mid new → Passes (λ a. spelled_tagged (tagged a)) b old new
   kind_passes Is n true old mid new e p q = record {
     passes = (
@@ -247,7 +248,8 @@ module _ {A F : Type 0} {tagged : A → Tagged} {tag : ℕ} {fields : F → Opti
   kind_behind n b mid new e q = kind_passes (λ m. Unit {0}) n b (n ∷ mid) mid new e (record { passes = (tt, refl) }) q
 
 -- one that is a tag alone
-pub kind_alone : {A : Type 0} {tagged : A → Tagged} {tag : ℕ} {make : Unit {0} → A} (kind : IsKind tagged tag nothing make)
+pub kind_alone : {A : Type 0} {tagged : A → Tagged} {tag : ℕ} {make : Unit {0} → A}
+    (kind : IsKind tagged tag nothing make)
     (Is : ℕ → Type 0) (n : ℕ) (old new : List ℕ) → n ≡ tag → PassesOne Is (Some n) old new
     → Passes (λ a. spelled_tagged (tagged a)) true old new
 kind_alone kind Is n old new e p = kind_passes kind Is n true old new new e p (record { passes = (tt, refl) })

@@ -82,7 +82,8 @@ run_stops n f code one k false old mid new l e so p =
               ∙ ap Some (sym (append_assoc whole.0 s.front (s.begins.1 ++ fill.1))),
         );
         ends = λ any same.
-            no_run n f code so.done (s.front ++ any) ((whole.0 ++ s.front) ++ any) (let done = so.long in omega (arith, done, l))
+            no_run n f code so.done (s.front ++ any) ((whole.0 ++ s.front) ++ any)
+            (let done = so.long in omega (arith, done, l))
             (ap (λ o. o ++? Some (s.front ++ any)) whole.2 ∙ ap Some (sym (append_assoc whole.0 s.front any)))
             (s.ends any same);
       };

@@ -27,19 +27,23 @@ Names = List (List ℕ × ℕ)
 
 -- the uses of the names before a place were seen, and no others
 pub record Seen (names : Names) (uses : List Which) (seen : List (Option Which)) (place : ℕ) : Type 0 where
-  pub before : (j : ℕ) (name : List ℕ × ℕ) → j < place → slice_get names j ≡ Some name → slice_get seen name.1 ≡ Some (slice_get uses j)
+  pub before : (j : ℕ) (name : List ℕ × ℕ) → j < place → slice_get names j ≡ Some name
+      → slice_get seen name.1 ≡ Some (slice_get uses j)
   pub from : (node : ℕ) (u : Which) → slice_get seen node ≡ Some (Some u)
       → (j : ℕ) × (name : List ℕ × ℕ) × (slice_get names j ≡ Some name) × (name.1 ≡ node) × (slice_get uses j ≡ Some u)
 
-pub nothing_seen : (names : Names) (uses : List Which) (seen : List (Option Which)) → AllNone seen → Seen names uses seen 0
+pub nothing_seen : (names : Names) (uses : List Which) (seen : List (Option Which)) → AllNone seen
+    → Seen names uses seen 0
 nothing_seen names uses seen none = record {
   before = λ j name h e. absurd (omega arith);
   from = λ node u e. absurd (none node u e);
 }
 
 -- one of which the use was seen
-pub seen_again : (names : Names) (uses : List Which) (seen : List (Option Which)) (place next : ℕ) (name : List ℕ × ℕ) (u : Which) → next ≡ place + 1
-    → slice_get names place ≡ Some name → slice_get seen name.1 ≡ Some (Some u) → slice_get uses place ≡ Some u → Seen names uses seen place → Seen names uses seen next
+pub seen_again : (names : Names) (uses : List Which) (seen : List (Option Which)) (place next : ℕ) (name : List ℕ × ℕ)
+    (u : Which) → next ≡ place + 1
+    → slice_get names place ≡ Some name → slice_get seen name.1 ≡ Some (Some u) → slice_get uses place ≡ Some u
+    → Seen names uses seen place → Seen names uses seen next
 seen_again names uses seen place next name u n at is used s = record {
   before = λ j other h e. elim (cases_lt j place) [
     | inl lt ↦ s.before j other lt e
@@ -57,13 +61,17 @@ no_use (x ∷ xs) zero h e = absurd (cc)
 no_use (x ∷ xs) (suc j) h e = no_use xs j (omega arith) e
 
 -- one of which it wasn't
-pub seen_first : (names : Names) (uses : List Which) (seen now : List (Option Which)) (place next : ℕ) (name : List ℕ × ℕ) (u : Which) → next ≡ place + 1
+pub seen_first : (names : Names) (uses : List Which) (seen now : List (Option Which)) (place next : ℕ)
+    (name : List ℕ × ℕ) (u : Which) → next ≡ place + 1
     → now ≡ set seen name.1 (Some u) → length uses ≡ length names
-    → slice_get names place ≡ Some name → slice_get seen name.1 ≡ Some None → slice_get uses place ≡ Some u → Seen names uses seen place → Seen names uses now next
+    → slice_get names place ≡ Some name → slice_get seen name.1 ≡ Some None → slice_get uses place ≡ Some u
+    → Seen names uses seen place → Seen names uses now next
 seen_first names uses seen now place next name u n write each at is used s =
     let room : name.1 < length seen = slice_get_within seen name.1 None is in
-    let here_now : slice_get now name.1 ≡ Some (Some u) = ap (λ xs. slice_get xs name.1) write ∙ get_set seen name.1 (Some u) room in
-    let fresh : (k : ℕ) → name.1 ≢ k → slice_get now k ≡ slice_get seen k = λ k other. ap (λ xs. slice_get xs k) write ∙ get_set_other seen name.1 k (Some u) other in
+    let here_now : slice_get now name.1 ≡ Some (Some u) = ap (λ xs. slice_get xs name.1) write
+    ∙ get_set seen name.1 (Some u) room in
+    let fresh : (k : ℕ) → name.1 ≢ k → slice_get now k ≡ slice_get seen k = λ k other. ap (λ xs. slice_get xs k) write
+    ∙ get_set_other seen name.1 k (Some u) other in
     record {
       before = λ j other h e. elim (cases_lt j place) [
         | inl lt ↦ elim (eqb_tells name.1 other.1) [
@@ -77,8 +85,10 @@ seen_first names uses seen now place next name u n write each at is used s =
         ]
         | inr le ↦
             let here : j ≡ place = omega arith in
-            let same : other ≡ name = let both : Some other ≡ Some name = sym e ∙ ap (slice_get names) here ∙ at in cc in
-            ap (λ (x : List ℕ × ℕ). slice_get now x.1) same ∙ here_now ∙ ap Some (sym used ∙ ap (slice_get uses) (sym here))
+            let same : other ≡ name = let both : Some other ≡ Some name = sym e ∙ ap (slice_get names) here ∙ at in
+            cc in
+            ap (λ (x : List ℕ × ℕ). slice_get now x.1) same ∙ here_now
+            ∙ ap Some (sym used ∙ ap (slice_get uses) (sym here))
       ];
       from = λ node v e. elim (eqb_tells name.1 node) [
         | inl same ↦
@@ -90,7 +100,8 @@ seen_first names uses seen now place next name u n write each at is used s =
     }
 
 -- all were seen
-pub all_alike : (names : Names) (uses : List Which) (seen : List (Option Which)) (place : ℕ) → length names ≤ place → Seen names uses seen place → AreAlike names uses
+pub all_alike : (names : Names) (uses : List Which) (seen : List (Option Which)) (place : ℕ) → length names ≤ place
+    → Seen names uses seen place → AreAlike names uses
 all_alike names uses seen place all s = λ i j one other ei ej same.
     let wi = slice_get_within names i one ei in
     let wj = slice_get_within names j other ej in
@@ -100,8 +111,10 @@ all_alike names uses seen place all s = λ i j one other ei ej same.
     cc
 
 -- one that was seen otherwise
-pub not_alike : (names : Names) (uses : List Which) (seen : List (Option Which)) (place : ℕ) (name : List ℕ × ℕ) (b u : Which)
-    → slice_get names place ≡ Some name → slice_get seen name.1 ≡ Some (Some b) → slice_get uses place ≡ Some u → (b ≡ u → ⊥) → Seen names uses seen place → AreAlike names uses → ⊥
+pub not_alike : (names : Names) (uses : List Which) (seen : List (Option Which)) (place : ℕ) (name : List ℕ × ℕ)
+    (b u : Which)
+    → slice_get names place ≡ Some name → slice_get seen name.1 ≡ Some (Some b) → slice_get uses place ≡ Some u
+    → (b ≡ u → ⊥) → Seen names uses seen place → AreAlike names uses → ⊥
 not_alike names uses seen place name b u at is used apart s alike =
     let p = s.from name.1 b is in
     let same = alike p.0 place p.1 name p.2 at p.3 in

@@ -53,7 +53,8 @@ grouped nodes names declared first second uses =
     ∙ ap (λ o. names ++? (declared ++? o)) (sym (joins_assoc first second uses)))
 
 new_body : (t : TableParts) → length t.uses ≡ length t.model.names
-    → spelled_model t.model ++? (spelled_program t.first ++? (spelled_program t.second ++? spelled_each spelled_which t.uses))
+    → spelled_model t.model ++?
+    (spelled_program t.first ++? (spelled_program t.second ++? spelled_each spelled_which t.uses))
     ≡ spelled_new_fields (new_fields t)
 new_body t each =
     grouped (spelled_list spelled_node t.model.graph) (spelled_list spelled_name t.model.names)
@@ -111,8 +112,11 @@ form_of (l, New x) octets e =
 -- the form of octets, as pairs
 of_spelled : (table : TableParts) (octets : List ℕ) → length table.uses ≡ length table.model.names
     → Spells table octets ⊎ SpellsOld table octets → (x : Letters × Form) × (spelled_file x ≡ Some octets)
-of_spelled t octets each (inl s) =
-    ((letters, New (new_fields t)), file_start (New (new_fields t)) ∙ ap (λ o. spelled_start 2 ++? o) (sym (new_body t each)) ∙ s)
+of_spelled t octets each (inl s) = (
+  (letters, New (new_fields t)),
+  file_start (New (new_fields t))
+      ∙ ap (λ o. spelled_start 2 ++? o) (sym (new_body t each)) ∙ s,
+)
 of_spelled t octets each (inr s) =
     ((letters, Old (model_fields t.model, t.first)), file_start (Old (model_fields t.model, t.first)) ∙ s.spelled)
 
@@ -168,7 +172,8 @@ of_stop octets rest s = record {
 }
 
 -- behind a whole file
-of_file : (x : Letters × Form) (front : List ℕ) (n : ℕ) (rest : List ℕ) → spelled_file x ≡ Some front → Halts front (n ∷ rest)
+of_file : (x : Letters × Form) (front : List ℕ) (n : ℕ) (rest : List ℕ) → spelled_file x ≡ Some front
+    → Halts front (n ∷ rest)
 of_file x front n rest is = record {
   begins = (x, [], is ∙ ap Some (sym (append-nil front)));
   ends = λ any same y e.

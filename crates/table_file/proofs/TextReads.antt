@@ -46,7 +46,8 @@ pub ascii_run : (n : ℕ) (xs : List ℕ) → length xs ≡ n → all_ascii xs �
 ascii_run n xs l e = run_of n spelled_ascii xs l ∙ each_ascii xs ∙ ap (λ b. then_some b xs) e
 
 -- no text is spelled by others
-no_ascii : (n : ℕ) (front rest octets : List ℕ) → length front ≡ n → octets ≡ front ++ rest → all_ascii front ≡ false → BeginsWithNone (spelled_run n spelled_ascii) octets
+no_ascii : (n : ℕ) (front rest octets : List ℕ) → length front ≡ n → octets ≡ front ++ rest → all_ascii front ≡ false
+    → BeginsWithNone (spelled_run n spelled_ascii) octets
 no_ascii n front rest octets l cut bad = λ xs behind e.
     let p = run_at n spelled_ascii xs behind octets e in
     let q = split (spelled_each spelled_ascii xs) (Some behind) octets p.1 in
@@ -61,16 +62,22 @@ abbrev pub IsNameOf : List ℕ → Result (List ℕ) TableFault → Type 0
 IsNameOf octets (Ok name) = (name ≡ octets) × (all_ascii octets ≡ true)
 IsNameOf octets (Err fault) = OnFalse (wants_memory fault) (all_ascii octets ≡ false)
 
-pub ascii_reads : (n : ℕ) (front : List ℕ) (r : Result (List ℕ) TableFault) (old new : Option (List ℕ)) → Takes n front old new → IsNameOf front r
+pub ascii_reads : (n : ℕ) (front : List ℕ) (r : Result (List ℕ) TableFault) (old new : Option (List ℕ))
+    → Takes n front old new → IsNameOf front r
     → Reads (spelled_run n spelled_ascii) r old new
 ascii_reads n front (Ok name) old new t is =
-    taken_reads (spelled_run n spelled_ascii) name n front old new (ap (λ x. spelled_run n spelled_ascii x) is.0 ∙ ascii_run n front t.long is.1) t
+    taken_reads (spelled_run n spelled_ascii) name n front old new
+    (ap (λ x. spelled_run n spelled_ascii x) is.0 ∙ ascii_run n front t.long is.1) t
 ascii_reads n front (Err fault) (Some octets) (Some rest) t is =
-    record { reads = only_if_weaker (wants_memory fault) (all_ascii front ≡ false) (BeginsWithNone (spelled_run n spelled_ascii) octets) (no_ascii n front rest octets t.long t.takes) is }
+    record {
+      reads = only_if_weaker (wants_memory fault) (all_ascii front ≡ false)
+          (BeginsWithNone (spelled_run n spelled_ascii) octets) (no_ascii n front rest octets t.long t.takes) is;
+    }
 ascii_reads n front (Err fault) (Some octets) None t is = absurd t.takes
 ascii_reads n front (Err fault) None new t is = record { reads = tt }
 
-pub is_name_of : (octets : List ℕ) (r : Result (List ℕ) TableFault) → IfOk r (λ name. name ≡ octets) → OnOk r (all_ascii octets ≡ true)
+pub is_name_of : (octets : List ℕ) (r : Result (List ℕ) TableFault) → IfOk r (λ name. name ≡ octets)
+    → OnOk r (all_ascii octets ≡ true)
     → IfErr r (λ fault. OnFalse (wants_memory fault) (all_ascii octets ≡ false)) → IsNameOf octets r
 is_name_of octets (Ok name) kept ascii refused = (kept, ascii)
 is_name_of octets (Err fault) kept ascii refused = refused

@@ -27,7 +27,8 @@ module _ {A F : Type 0} {tagged : A → Tagged} {tag : ℕ} {fields : F → Opti
       let same : p.0 ≡ mid = cc in
       none x.0 rest (p.2 ∙ ap Some same)
 
-  by_tag : (r : Result F TableFault) (old mid new : Option (List ℕ)) → Takes 1 (tag ∷ []) old mid → Reads fields r mid new
+  by_tag : (r : Result F TableFault) (old mid new : Option (List ℕ)) → Takes 1 (tag ∷ []) old mid
+      → Reads fields r mid new
       → Reads (λ a. spelled_tagged (tagged a)) (made make r) old new
   by_tag (Ok x) (Some octets) (Some m) (Some rest) t r = record {
     reads =
@@ -37,7 +38,8 @@ module _ {A F : Type 0} {tagged : A → Tagged} {tag : ℕ} {fields : F → Opti
   by_tag (Ok x) (Some octets) (Some m) None t r = record { reads = no_fields m octets t.takes r.reads }
   by_tag (Err fault) (Some octets) (Some m) new t r = record {
     reads =
-        only_if_weaker (wants_memory fault) (BeginsWithNone fields m) (BeginsWithNone (λ a. spelled_tagged (tagged a)) octets)
+        only_if_weaker (wants_memory fault) (BeginsWithNone fields m)
+        (BeginsWithNone (λ a. spelled_tagged (tagged a)) octets)
         (no_fields m octets t.takes) r.reads;
   }
   by_tag r (Some octets) None new t q = absurd t.takes

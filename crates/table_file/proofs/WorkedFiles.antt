@@ -35,7 +35,8 @@ one_routine = record {
 
 abbrev one_name : TableParts
 one_name = table_of
-    (parts_of (nodes.Octet ∷ nodes.Integer Four false ∷ nodes.Text 0 ∷ nodes.Struct (0 ∷ 1 ∷ 2 ∷ []) ∷ []) ((83 ∷ [], 3) ∷ []) [] [] [])
+    (parts_of (nodes.Octet ∷ nodes.Integer Four false ∷ nodes.Text 0 ∷ nodes.Struct (0 ∷ 1 ∷ 2 ∷ []) ∷ [])
+    ((83 ∷ [], 3) ∷ []) [] [] [])
     (one_routine ∷ []) [] (First ∷ [])
 
 one_name_file : Spells one_name (

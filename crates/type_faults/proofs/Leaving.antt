@@ -16,7 +16,12 @@ pub left_step : (kept : ℕ) (refused : List ℕ) (s : Scan) (ls : List Token) (
     → map parts_of (ls ++ x ∷ []) ++ without kept refused (after s (parts_of t)) (map parts_of ts)
     ≡ map parts_of ls ++ without kept refused s (map parts_of (t ∷ ts))
 left_step kept refused s ls t x ts e =
-    rw (map-append parts_of ls (x ∷ []), append_assoc (map parts_of ls) (parts_of x ∷ []) (without kept refused (after s (parts_of t)) (map parts_of ts)), e) refl
+    rw (
+      map-append parts_of ls (x ∷ []),
+      append_assoc (map parts_of ls) (parts_of x ∷ [])
+          (without kept refused (after s (parts_of t)) (map parts_of ts)),
+      e,
+    ) refl
 
 -- ---- how much more is known behind one token
 
@@ -40,12 +45,14 @@ mode_room Between t =
     (if_shallow (begins_part t) (Within 0) Between 1 (omega arith) (omega arith))
 mode_room Head t = if_shallow (ends_head t) Between Head 1 (omega arith) (omega arith)
 mode_room (Within depth) t =
-    if_shallow (ends_part depth t) Between (Within (depth_behind depth t)) (depth + 1) (omega arith) (depth_room depth t)
+    if_shallow (ends_part depth t) Between (Within (depth_behind depth t)) (depth + 1) (omega arith)
+    (depth_room depth t)
 
 part_room : (s : Scan) (mode : Mode) (t : TokenParts) → parts_behind s t mode ≤ s.parts + 1
 part_room s Between t = omega arith
 part_room s Head t = omega arith
-part_room s (Within depth) t = if_small (ends_part depth t) (s.parts + 1) s.parts (s.parts + 1) (omega arith) (omega arith)
+part_room s (Within depth) t =
+    if_small (ends_part depth t) (s.parts + 1) s.parts (s.parts + 1) (omega arith) (omega arith)
 
 pub parts_room : (s : Scan) (t : TokenParts) → (after s t).parts ≤ s.parts + 1
 parts_room s t = part_room s s.mode t

@@ -49,7 +49,8 @@ same_names definitions others names given same one other =
     let e : Ok given ≡ Ok names = sym other ∙ (sym same ∙ one) in cc
 
 -- the fault of the tokens of a specification is its own
-pub own_fault : OneShape → OneNaming → OneLowering → (tokens : List Token) (definitions : List Definition) (names : FileNames) (fault : BuildFault)
+pub own_fault : OneShape → OneNaming → OneLowering
+    → (tokens : List Token) (definitions : List Definition) (names : FileNames) (fault : BuildFault)
     → Spell (definitions_spelled definitions) tokens → AreNames definitions names
     → HasFault tokens (left (length tokens) [] tokens) fault
     → defined_by names.entries definitions ≡ Err fault

@@ -27,7 +27,8 @@ by_parts : (n : ℕ) (ts : List Token) → seen_from n ts ≡ seen_parts n (map 
 by_parts n [] = refl
 by_parts n (t ∷ []) = refl
 by_parts n (t ∷ u ∷ us) =
-    ap (λ l. record { kind = t.kind; text = t.text.now; token = (n, parts_of t); touches = nat_eq (end_of t) u.start } ∷ l)
+    ap (λ l. record { kind = t.kind; text = t.text.now; token = (n, parts_of t); touches = nat_eq (end_of t) u.start }
+    ∷ l)
     (by_parts (n + 1) (u ∷ us))
 
 same_seen : (ts us : List Token) → map parts_of ts ≡ map parts_of us → seen_from 0 ts ≡ seen_from 0 us

@@ -11,8 +11,8 @@ ghost use Rattle.lowered_types.specs.declared.fault.BuildFault.{BuildFault};
 ghost use Rattle.scoped_names.specs.FileNames.{AreNames, FileNames};
 ghost use Rattle.type_faults.specs.AllFaults.{AreRefused};
 
-use shape_laws::laws::{names_are_of_the_shape, types_are_of_the_shape};
 use idl_tree::tree_laws::laws::spec_is_one;
+use shape_laws::laws::{names_are_of_the_shape, types_are_of_the_shape};
 
 /// The first part that is refused tells the first fault of the specification.
 pub fn first_is_told()

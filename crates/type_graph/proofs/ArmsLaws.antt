@@ -8,7 +8,8 @@ both_passed true t h = (refl, h)
 both_passed false t h = absurd cc
 
 -- a test of both parts decides whether two pairs are equal
-pub pairs_decided : (E : ℤ → ℤ → Bool) (F : ℕ → ℕ → Bool) → ((a b : ℤ) → Decides (E a b) (a ≡ b)) → ((m n : ℕ) → Decides (F m n) (m ≡ n)) → (x y : ℤ × ℕ) → Decides (E x.0 y.0 && F x.1 y.1) (x ≡ y)
+pub pairs_decided : (E : ℤ → ℤ → Bool) (F : ℕ → ℕ → Bool) → ((a b : ℤ) → Decides (E a b) (a ≡ b))
+    → ((m n : ℕ) → Decides (F m n) (m ≡ n)) → (x y : ℤ × ℕ) → Decides (E x.0 y.0 && F x.1 y.1) (x ≡ y)
 pairs_decided E F ints nats (a, m) (b, n) = (
   λ h.
       let both = both_passed (E a b) (F m n) h in

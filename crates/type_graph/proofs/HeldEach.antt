@@ -10,12 +10,14 @@ use Rattle.type_graph.specs.Value.{arm_of}
 use Rattle.type_graph.specs.GraphRules.{held_by, IsShallow, IsGraph}
 
 -- of what a discriminator chooses
-pub all_chosen : (P : ℕ → Type 0) (arms : List (ℤ × ℕ)) (default : Option ℕ) (a : ℤ) → AllByRecursion P (map (λ arm. arm.1) arms ++ option_to_list default) → AllByRecursion P (arm_of arms default a)
+pub all_chosen : (P : ℕ → Type 0) (arms : List (ℤ × ℕ)) (default : Option ℕ) (a : ℤ)
+    → AllByRecursion P (map (λ arm. arm.1) arms ++ option_to_list default) → AllByRecursion P (arm_of arms default a)
 all_chosen P [] default a h = h
-all_chosen P (arm ∷ more) default a h = elim (int_eq arm.0 a) as (λ b. AllByRecursion P (cond b (arm.1 ∷ []) (arm_of more default a))) [
-  | true ↦ (h.0, tt)
-  | false ↦ all_chosen P more default a h.1
-]
+all_chosen P (arm ∷ more) default a h =
+    elim (int_eq arm.0 a) as (λ b. AllByRecursion P (cond b (arm.1 ∷ []) (arm_of more default a))) [
+      | true ↦ (h.0, tt)
+      | false ↦ all_chosen P more default a h.1
+    ]
 
 -- of each element
 pub all_repeated : (P : ℕ → Type 0) (n number : ℕ) → P number → AllByRecursion P (replicate n number)
@@ -27,5 +29,6 @@ pub shallow_all : (graph : List Node) → IsGraph graph → (number : ℕ) → I
 unfolding IsShallow
 shallow_all graph rules number = elim (cases_lt number (length graph)) as (λ v. IsShallow 64 graph number) [
   | inl lt ↦ rules.shallow number lt
-  | inr le ↦ subst (λ (node : Node). AllByRecursion (IsShallow 63 graph) (held_by node)) (sym (get_or_past graph number Octet le)) tt
+  | inr le ↦ subst (λ (node : Node). AllByRecursion (IsShallow 63 graph) (held_by node))
+      (sym (get_or_past graph number Octet le)) tt
 ]

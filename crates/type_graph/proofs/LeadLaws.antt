@@ -28,7 +28,8 @@ IsFilled (Array elem n) = 0 < n
 IsFilled node = Unit {0}
 
 -- what is the same leads with the same
-pub leads_same : {format : Format} {w : Width} {R Q : Relation} → Same Anywhere R Q → Leads format w R → Leads format w Q
+pub leads_same : {format : Format} {w : Width} {R Q : Relation} → Same Anywhere R Q → Leads format w R
+    → Leads format w Q
 leads_same e l = record { absorbs = same_trans (then_same_anywhere same_refl (same_sym e)) (same_trans l.absorbs e) }
 
 -- a gap behind the same gap is empty
@@ -51,13 +52,16 @@ pub one_leads : {format : Format} {R : Relation} → Leads format One R
 one_leads {format} = record { absorbs = gap_one_then [] format }
 
 -- the gap before the first of some elements that lead with it
-pub first_leads : {format : Format} {w : Width} {R : Relation} (n : ℕ) → Leads format w R → Same Anywhere (GapBeforeFirst format w n (Many n R)) (Many n R)
+pub first_leads : {format : Format} {w : Width} {R : Relation} (n : ℕ) → Leads format w R
+    → Same Anywhere (GapBeforeFirst format w n (Many n R)) (Many n R)
 first_leads zero l = same_refl
 first_leads {format} {w} {R} (suc n) l = (then_leads {Q = Many n R} l).absorbs
 
 module _ (graph : List Node) (format : Format) (depth : ℕ) where
   -- a chain leads with its first piece
-  chain_leads : (lead : ℕ → Width) (numbers : List ℕ) → AllByRecursion (λ m. Leads format (lead m) (Means graph format depth m)) numbers → Leads format (first_lead lead numbers) (Chain (Means graph format depth) numbers)
+  chain_leads : (lead : ℕ → Width) (numbers : List ℕ)
+      → AllByRecursion (λ m. Leads format (lead m) (Means graph format depth m)) numbers
+      → Leads format (first_lead lead numbers) (Chain (Means graph format depth) numbers)
   chain_leads lead [] a = one_leads
   chain_leads lead (number ∷ numbers) a = then_leads a.0
 
@@ -67,7 +71,9 @@ module _ (graph : List Node) (format : Format) (depth : ℕ) where
   many_leads w (suc n) R h l = then_leads l
 
   -- a node's values lead as it says where those of the nodes that it holds do
-  pub node_leads : (lead : ℕ → Width) (node : Node) → IsFilled node → AllByRecursion (λ m. Leads format (lead m) (Means graph format depth m)) (held_by node) → Leads format (lead_by lead graph node) (NodeMeans graph format depth node)
+  pub node_leads : (lead : ℕ → Width) (node : Node) → IsFilled node
+      → AllByRecursion (λ m. Leads format (lead m) (Means graph format depth m)) (held_by node)
+      → Leads format (lead_by lead graph node) (NodeMeans graph format depth node)
   node_leads lead (Integer w signed) f a = leads_same (same_sym (whole_means graph format depth w signed)) gap_leads
   node_leads lead Octet f a = one_leads
   node_leads lead Char f a = one_leads
@@ -75,14 +81,23 @@ module _ (graph : List Node) (format : Format) (depth : ℕ) where
   node_leads lead (Enum n) f a = leads_same (same_sym (enum_means graph format depth n)) gap_leads
   node_leads lead (Text bound) f a = leads_same (same_sym (text_means graph format depth bound)) gap_leads
   node_leads lead (Seq elem bound) f a = leads_same (same_sym (seq_means graph format depth elem bound)) gap_leads
-  node_leads lead (Array elem n) f a = leads_same (same_sym (array_means graph format depth elem n)) (many_leads (lead elem) n (Means graph format depth elem) f a.0)
-  node_leads lead (Struct members) f a = leads_same (same_sym (struct_means graph format depth members)) (chain_leads lead members a)
-  node_leads lead (Frame members) f a = leads_same (same_sym (frame_means graph format depth members)) (chain_leads lead members a)
-  node_leads lead (Union switch arms default) f a = leads_same (same_sym (union_means graph format depth switch arms default)) gap_leads
+  node_leads lead (Array elem n) f a =
+      leads_same (same_sym (array_means graph format depth elem n))
+      (many_leads (lead elem) n (Means graph format depth elem) f a.0)
+  node_leads lead (Struct members) f a =
+      leads_same (same_sym (struct_means graph format depth members)) (chain_leads lead members a)
+  node_leads lead (Frame members) f a =
+      leads_same (same_sym (frame_means graph format depth members)) (chain_leads lead members a)
+  node_leads lead (Union switch arms default) f a =
+      leads_same (same_sym (union_means graph format depth switch arms default)) gap_leads
 
   -- the values of a shallow node lead with its lead
-  pub lead_leads : ((number : ℕ) → IsFilled (node_at graph number)) → (levels number : ℕ) → IsShallow levels graph number → Leads format (lead_within levels graph number) (Means graph format depth number)
+  pub lead_leads : ((number : ℕ) → IsFilled (node_at graph number)) → (levels number : ℕ)
+      → IsShallow levels graph number → Leads format (lead_within levels graph number) (Means graph format depth number)
   unfolding IsShallow lead_within
   lead_leads filled zero number h = absurd h
   lead_leads filled (suc levels) number h =
-      node_leads (lead_within levels graph) (node_at graph number) (filled number) (all_weaken (IsShallow levels graph) (λ m. Leads format (lead_within levels graph m) (Means graph format depth m)) (held_by (node_at graph number)) (λ m s. lead_leads filled levels m s) h)
+      node_leads (lead_within levels graph) (node_at graph number) (filled number)
+      (all_weaken (IsShallow levels graph)
+      (λ m. Leads format (lead_within levels graph m) (Means graph format depth m)) (held_by (node_at graph number))
+      (λ m s. lead_leads filled levels m s) h)

@@ -57,28 +57,34 @@ below_weaken m k (pos n) h b = omega arith
 below_weaken m k (negsuc n) h b = b
 
 -- numbers of a node of one word in some byte order are one
-pub number_same_in : (o : Order) (node : Node) (m n : ℤ) → FitsWord node → IsNumber node m → IsNumber node n → word o (number_width node) m ≡ word o (number_width node) n → m ≡ n
+pub number_same_in : (o : Order) (node : Node) (m n : ℤ) → FitsWord node → IsNumber node m → IsNumber node n
+    → word o (number_width node) m ≡ word o (number_width node) n → m ≡ n
 number_same_in o (Integer w true) m n f hm hn e = signed_word_same o w m n hm hn e
 number_same_in o (Integer w false) m n f hm hn e = below_word_same o w m n hm hn e
 number_same_in o Octet m n f hm hn e = below_word_same o One m n hm hn e
 number_same_in o Char m n f hm hn e = below_word_same o One m n hm hn e
-number_same_in o Boolean m n f hm hn e = below_word_same o One m n (below_weaken 2 256 m (omega arith) hm) (below_weaken 2 256 n (omega arith) hn) e
-number_same_in o (Enum limit) m n f hm hn e = below_word_same o Four m n (below_weaken limit (2 ^ 32) m f hm) (below_weaken limit (2 ^ 32) n f hn) e
+number_same_in o Boolean m n f hm hn e =
+    below_word_same o One m n (below_weaken 2 256 m (omega arith) hm) (below_weaken 2 256 n (omega arith) hn) e
+number_same_in o (Enum limit) m n f hm hn e =
+    below_word_same o Four m n (below_weaken limit (2 ^ 32) m f hm) (below_weaken limit (2 ^ 32) n f hn) e
 number_same_in o node m n f hm hn e = absurd hm
 
 -- and so in big order
-pub number_same : (node : Node) (m n : ℤ) → FitsWord node → IsNumber node m → IsNumber node n → word Big (number_width node) m ≡ word Big (number_width node) n → m ≡ n
+pub number_same : (node : Node) (m n : ℤ) → FitsWord node → IsNumber node m → IsNumber node n
+    → word Big (number_width node) m ≡ word Big (number_width node) n → m ≡ n
 number_same node m n f hm hn e = number_same_in Big node m n f hm hn e
 
 -- numbers whose words begin one list
-words_same : (node : Node) (m n : ℤ) (s r : List ℕ) → FitsWord node → IsNumber node m → IsNumber node n → word Big (number_width node) m ++ s ≡ word Big (number_width node) n ++ r → (m ≡ n) × (s ≡ r)
+words_same : (node : Node) (m n : ℤ) (s r : List ℕ) → FitsWord node → IsNumber node m → IsNumber node n
+    → word Big (number_width node) m ++ s ≡ word Big (number_width node) n ++ r → (m ≡ n) × (s ≡ r)
 words_same node m n s r f hm hn e =
     let w = number_width node in
     let cut = cut_same (word Big w m) (word Big w n) s r (length-word Big w m ∙ sym (length-word Big w n)) e in
     (number_same node m n f hm hn cut.0, cut.1)
 
 -- counts whose words begin one list
-counts_same : (m n : ℕ) (s r : List ℕ) → m < 2 ^ 32 → n < 2 ^ 32 → word Big Four (pos m) ++ s ≡ word Big Four (pos n) ++ r → (m ≡ n) × (s ≡ r)
+counts_same : (m n : ℕ) (s r : List ℕ) → m < 2 ^ 32 → n < 2 ^ 32
+    → word Big Four (pos m) ++ s ≡ word Big Four (pos n) ++ r → (m ≡ n) × (s ≡ r)
 counts_same m n s r hm hn e =
     let cut = cut_same (word Big Four (pos m)) (word Big Four (pos n)) s r refl e in
     (plain_word_same Big Four m n hm hn cut.0, cut.1)
@@ -95,19 +101,24 @@ number_numeric node m h = absurd h
 module _ (graph : List Node) (words : (number : ℕ) → FitsWord (node_at graph number)) where
   mutual
     -- values whose tapes begin one list are one
-    pub one_front : (node : Node) (v u : Tree) (d e : ℕ) (s r : List ℕ) → FitsWord node → Fits graph node v d → Fits graph node u e → tape_of graph node v ++ s ≡ tape_of graph node u ++ r → (v ≡ u) × (s ≡ r)
+    pub one_front : (node : Node) (v u : Tree) (d e : ℕ) (s r : List ℕ) → FitsWord node → Fits graph node v d
+        → Fits graph node u e → tape_of graph node v ++ s ≡ tape_of graph node u ++ r → (v ≡ u) × (s ≡ r)
     one_front node (Number m) (Number n) d e s r f hv hu h =
         let same = words_same node m n s r f hv hu h in
         (ap Number same.0, same.1)
     one_front node (Number m) u d e s r f hv hu h = absurd (numeric_alone graph node u e (number_numeric node m hv) hu)
     one_front (Text bound) (Bytes a) (Bytes b) d e s r f hv hu h =
-        let counted = counts_same (length a) (length b) (a ++ s) (b ++ r) (let short = hv.short in omega (arith, short)) (let short = hu.short in omega (arith, short)) (sym (append_assoc (word Big Four (pos (length a))) a s) ∙ h ∙ append_assoc (word Big Four (pos (length b))) b r) in
+        let counted = counts_same (length a) (length b) (a ++ s) (b ++ r) (let short = hv.short in omega (arith, short))
+        (let short = hu.short in omega (arith, short)) (sym (append_assoc (word Big Four (pos (length a))) a s) ∙ h
+        ∙ append_assoc (word Big Four (pos (length b))) b r) in
         let cut = cut_same a b s r counted.0 counted.1 in
         (ap Bytes cut.0, cut.1)
     one_front (Seq elem bound) (Items vs) (Items us) d e s r f hv hu h =
         let tv = tapes_of graph (replicate (count vs) elem) vs in
         let tu = tapes_of graph (replicate (count us) elem) us in
-        let counted = counts_same (count vs) (count us) (tv ++ s) (tu ++ r) hv.1.short hu.1.short (sym (append_assoc (word Big Four (pos (count vs))) tv s) ∙ h ∙ append_assoc (word Big Four (pos (count us))) tu r) in
+        let counted = counts_same (count vs) (count us) (tv ++ s) (tu ++ r) hv.1.short hu.1.short
+        (sym (append_assoc (word Big Four (pos (count vs))) tv s) ∙ h
+        ∙ append_assoc (word Big Four (pos (count us))) tu r) in
         let back = sym counted.0 in
         let fits = subst (λ n. FitAll graph (replicate n elem) us (e - 1)) back hu.2 in
         let tapes = subst (λ n. tv ++ s ≡ tapes_of graph (replicate n elem) us ++ r) back counted.1 in
@@ -126,7 +137,9 @@ module _ (graph : List Node) (words : (number : ℕ) → FitsWord (node_at graph
         let node = node_at graph switch in
         let tv = tapes_of graph (arm_of arms default a) vs in
         let tu = tapes_of graph (arm_of arms default b) us in
-        let chosen = words_same node a b (tv ++ s) (tu ++ r) (words switch) hv.0 hu.0 (sym (append_assoc (word Big (number_width node) a) tv s) ∙ h ∙ append_assoc (word Big (number_width node) b) tu r) in
+        let chosen = words_same node a b (tv ++ s) (tu ++ r) (words switch) hv.0 hu.0
+        (sym (append_assoc (word Big (number_width node) a) tv s) ∙ h
+        ∙ append_assoc (word Big (number_width node) b) tu r) in
         let back = sym chosen.0 in
         let fits = subst (λ n. FitAll graph (arm_of arms default n) us e) back hu.1 in
         let tapes = subst (λ n. tv ++ s ≡ tapes_of graph (arm_of arms default n) us ++ r) back chosen.1 in
@@ -135,17 +148,21 @@ module _ (graph : List Node) (words : (number : ℕ) → FitsWord (node_at graph
     one_front node v u d e s r f hv hu h = absurd (assumption (hv, hu))
 
     -- several values whose tapes begin one list
-    one_fronts : (numbers : List ℕ) (vs us : Trees) (d e : ℕ) (s r : List ℕ) → FitAll graph numbers vs d → FitAll graph numbers us e → tapes_of graph numbers vs ++ s ≡ tapes_of graph numbers us ++ r → (vs ≡ us) × (s ≡ r)
+    one_fronts : (numbers : List ℕ) (vs us : Trees) (d e : ℕ) (s r : List ℕ) → FitAll graph numbers vs d
+        → FitAll graph numbers us e → tapes_of graph numbers vs ++ s ≡ tapes_of graph numbers us ++ r
+        → (vs ≡ us) × (s ≡ r)
     one_fronts [] NoTree NoTree d e s r hv hu h = (refl, h)
     one_fronts (number ∷ numbers) (AndTree v vs) (AndTree u us) d e s r hv hu h =
         let node = node_at graph number in
         let tv = tapes_of graph numbers vs in
         let tu = tapes_of graph numbers us in
-        let first = one_front node v u d e (tv ++ s) (tu ++ r) (words number) hv.0 hu.0 (sym (append_assoc (tape_of graph node v) tv s) ∙ h ∙ append_assoc (tape_of graph node u) tu r) in
+        let first = one_front node v u d e (tv ++ s) (tu ++ r) (words number) hv.0 hu.0
+        (sym (append_assoc (tape_of graph node v) tv s) ∙ h ∙ append_assoc (tape_of graph node u) tu r) in
         let more = one_fronts numbers vs us d e s r hv.1 hu.1 first.1 in
         (ap₂ AndTree first.0 more.0, more.1)
     one_fronts numbers vs us d e s r hv hu h = absurd (assumption (hv, hu))
 
   -- values of one tape are one
-  pub one_tape : (node : Node) (v u : Tree) (depth : ℕ) → FitsWord node → Fits graph node v depth → Fits graph node u depth → tape_of graph node v ≡ tape_of graph node u → v ≡ u
+  pub one_tape : (node : Node) (v u : Tree) (depth : ℕ) → FitsWord node → Fits graph node v depth
+      → Fits graph node u depth → tape_of graph node v ≡ tape_of graph node u → v ≡ u
   one_tape node v u d f hv hu e = (one_front node v u d d [] [] f hv hu (ap (λ l. l ++ []) e)).0

@@ -38,7 +38,8 @@ same_ends e f = record { at = λ p t x s q. f.at p t x s (e.from p t x s q) }
 -- the second ends where the whole does
 pub then_ends : {S X Y : Positions} {R Q : Relation} → Ends S X R → Ends X Y Q → Ends S Y (Then R Q)
 then_ends {Y = Y} e f = record {
-  at = λ p t x s r. subst Y (sym (end_of_cut p x r.octets1 r.octets2 r.octets_is)) (f.at (p + length r.octets1) r.tape2 r.octets2 (e.at p r.tape1 r.octets1 s r.first) r.second);
+  at = λ p t x s r. subst Y (sym (end_of_cut p x r.octets1 r.octets2 r.octets_is))
+      (f.at (p + length r.octets1) r.tape2 r.octets2 (e.at p r.tape1 r.octets1 s r.first) r.second);
 }
 
 -- nothing ends where it starts
@@ -46,7 +47,8 @@ pub nothing_ends : {S : Positions} → Ends S S Nothing
 nothing_ends {S} = record { at = λ p t x s r. let e : p ≡ p + length x = rw r.no_octets (omega arith) in subst S e s }
 
 -- part by part
-pub then_same : {S X : Positions} {R R' Q Q' : Relation} → Same S R R' → Ends S X R → Same X Q Q' → Same S (Then R Q) (Then R' Q')
+pub then_same : {S X : Positions} {R R' Q Q' : Relation} → Same S R R' → Ends S X R → Same X Q Q'
+    → Same S (Then R Q) (Then R' Q')
 then_same a e b = record {
   to = λ p t x s r. record {
     tape1 = r.tape1;
@@ -71,7 +73,8 @@ then_same a e b = record {
 }
 
 -- part by part, where both parts are the same everywhere
-pub then_same_anywhere : {S : Positions} {R R' Q Q' : Relation} → Same Anywhere R R' → Same Anywhere Q Q' → Same S (Then R Q) (Then R' Q')
+pub then_same_anywhere : {S : Positions} {R R' Q Q' : Relation} → Same Anywhere R R' → Same Anywhere Q Q'
+    → Same S (Then R Q) (Then R' Q')
 then_same_anywhere a b = then_same (same_at a) ends_anywhere b
 
 -- one behind two is two behind one
@@ -83,7 +86,8 @@ then_assoc {C = C} = record {
     octets1 = r.first.octets1;
     octets2 = r.first.octets2 ++ r.octets2;
     tape_is = r.tape_is ∙ ap (λ l. l ++ r.tape2) r.first.tape_is ∙ append_assoc r.first.tape1 r.first.tape2 r.tape2;
-    octets_is = r.octets_is ∙ ap (λ l. l ++ r.octets2) r.first.octets_is ∙ append_assoc r.first.octets1 r.first.octets2 r.octets2;
+    octets_is = r.octets_is ∙ ap (λ l. l ++ r.octets2) r.first.octets_is
+        ∙ append_assoc r.first.octets1 r.first.octets2 r.octets2;
     first = r.first.first;
     second = record {
       tape1 = r.first.tape2;
@@ -93,7 +97,8 @@ then_assoc {C = C} = record {
       tape_is = refl;
       octets_is = refl;
       first = r.first.second;
-      second = subst (λ q. C q r.tape2 r.octets2) (end_of_cut p r.octets1 r.first.octets1 r.first.octets2 r.first.octets_is) r.second;
+      second = subst (λ q. C q r.tape2 r.octets2)
+          (end_of_cut p r.octets1 r.first.octets1 r.first.octets2 r.first.octets_is) r.second;
     };
   };
   from = λ p t x s r. record {
@@ -101,8 +106,10 @@ then_assoc {C = C} = record {
     tape2 = r.second.tape2;
     octets1 = r.octets1 ++ r.second.octets1;
     octets2 = r.second.octets2;
-    tape_is = r.tape_is ∙ ap (λ l. r.tape1 ++ l) r.second.tape_is ∙ sym (append_assoc r.tape1 r.second.tape1 r.second.tape2);
-    octets_is = r.octets_is ∙ ap (λ l. r.octets1 ++ l) r.second.octets_is ∙ sym (append_assoc r.octets1 r.second.octets1 r.second.octets2);
+    tape_is = r.tape_is ∙ ap (λ l. r.tape1 ++ l) r.second.tape_is
+        ∙ sym (append_assoc r.tape1 r.second.tape1 r.second.tape2);
+    octets_is = r.octets_is ∙ ap (λ l. r.octets1 ++ l) r.second.octets_is
+        ∙ sym (append_assoc r.octets1 r.second.octets1 r.second.octets2);
     first = record {
       tape1 = r.tape1;
       tape2 = r.second.tape1;
@@ -113,7 +120,8 @@ then_assoc {C = C} = record {
       first = r.first;
       second = r.second.first;
     };
-    second = subst (λ q. C q r.second.tape2 r.second.octets2) (sym (end_of_cut p (r.octets1 ++ r.second.octets1) r.octets1 r.second.octets1 refl)) r.second.second;
+    second = subst (λ q. C q r.second.tape2 r.second.octets2)
+        (sym (end_of_cut p (r.octets1 ++ r.second.octets1) r.octets1 r.second.octets1 refl)) r.second.second;
   };
 }
 
@@ -124,7 +132,8 @@ nothing_then {R = R} = record {
       let tape : r.tape2 ≡ t = sym (r.tape_is ∙ ap (λ l. l ++ r.tape2) r.first.no_tape) in
       let octets : r.octets2 ≡ x = sym (r.octets_is ∙ ap (λ l. l ++ r.octets2) r.first.no_octets) in
       let place : p + length r.octets1 ≡ p = rw r.first.no_octets (omega arith) in
-      subst (λ y. R p t y) octets (subst (λ u. R p u r.octets2) tape (subst (λ q. R q r.tape2 r.octets2) place r.second));
+      subst (λ y. R p t y) octets
+      (subst (λ u. R p u r.octets2) tape (subst (λ q. R q r.tape2 r.octets2) place r.second));
   from = λ p t x s r. record {
     tape1 = [];
     tape2 = t;
@@ -142,7 +151,8 @@ pub then_nothing : {S : Positions} {R : Relation} → Same S (Then R Nothing) R
 then_nothing {R = R} = record {
   to = λ p t x s r.
       let tape : r.tape1 ≡ t = sym (r.tape_is ∙ ap (λ l. r.tape1 ++ l) r.second.no_tape ∙ append-nil r.tape1) in
-      let octets : r.octets1 ≡ x = sym (r.octets_is ∙ ap (λ l. r.octets1 ++ l) r.second.no_octets ∙ append-nil r.octets1) in
+      let octets : r.octets1 ≡ x =
+      sym (r.octets_is ∙ ap (λ l. r.octets1 ++ l) r.second.no_octets ∙ append-nil r.octets1) in
       subst (λ y. R p t y) octets (subst (λ u. R p u r.octets1) tape r.first);
   from = λ p t x s r. record {
     tape1 = t;
@@ -187,7 +197,8 @@ many_one = then_nothing
 
 -- piece by piece, where the pieces of the list's elements are the same
 pub chain_same_each : {A : Type 0} {S : Positions} (R Q : A → Relation) (es : List A)
-    → AllByRecursion (λ a. Same S (R a) (Q a)) es → AllByRecursion (λ a. Ends S S (R a)) es → Same S (Chain R es) (Chain Q es)
+    → AllByRecursion (λ a. Same S (R a) (Q a)) es → AllByRecursion (λ a. Ends S S (R a)) es
+    → Same S (Chain R es) (Chain Q es)
 chain_same_each R Q [] a e = same_refl
 chain_same_each R Q (x ∷ es) a e = then_same a.0 e.0 (chain_same_each R Q es a.1 e.1)
 
@@ -204,17 +215,21 @@ chain_same_anywhere R Q [] a = same_refl
 chain_same_anywhere R Q (x ∷ es) a = then_same_anywhere a.0 (chain_same_anywhere R Q es a.1)
 
 -- each where the one before started
-pub chain_ends : {A : Type 0} {S : Positions} {R : A → Relation} (es : List A) → ((a : A) → Ends S S (R a)) → Ends S S (Chain R es)
+pub chain_ends : {A : Type 0} {S : Positions} {R : A → Relation} (es : List A) → ((a : A) → Ends S S (R a))
+    → Ends S S (Chain R es)
 chain_ends [] e = nothing_ends
 chain_ends (x ∷ es) e = then_ends (e x) (chain_ends es e)
 
 -- two lists one behind the other, everywhere
-chain_add_anywhere : {A : Type 0} (R : A → Relation) (es fs : List A) → Same Anywhere (Chain R (es ++ fs)) (Then (Chain R es) (Chain R fs))
+chain_add_anywhere : {A : Type 0} (R : A → Relation) (es fs : List A)
+    → Same Anywhere (Chain R (es ++ fs)) (Then (Chain R es) (Chain R fs))
 chain_add_anywhere R [] fs = same_sym nothing_then
-chain_add_anywhere R (x ∷ es) fs = same_trans (then_same_anywhere same_refl (chain_add_anywhere R es fs)) (same_sym then_assoc)
+chain_add_anywhere R (x ∷ es) fs =
+    same_trans (then_same_anywhere same_refl (chain_add_anywhere R es fs)) (same_sym then_assoc)
 
 -- two lists one behind the other
-pub chain_add : {A : Type 0} {S : Positions} (R : A → Relation) (es fs : List A) → Same S (Chain R (es ++ fs)) (Then (Chain R es) (Chain R fs))
+pub chain_add : {A : Type 0} {S : Positions} (R : A → Relation) (es fs : List A)
+    → Same S (Chain R (es ++ fs)) (Then (Chain R es) (Chain R fs))
 chain_add R es fs = same_at (chain_add_anywhere R es fs)
 
 -- one alone
@@ -222,12 +237,14 @@ pub chain_one : {A : Type 0} {S : Positions} (R : A → Relation) (a : A) → Sa
 chain_one R a = then_nothing
 
 -- n copies are n times the piece
-pub chain_many : {A : Type 0} {S : Positions} (R : A → Relation) (n : ℕ) (a : A) → Same S (Chain R (replicate n a)) (Many n (R a))
+pub chain_many : {A : Type 0} {S : Positions} (R : A → Relation) (n : ℕ) (a : A)
+    → Same S (Chain R (replicate n a)) (Many n (R a))
 chain_many R zero a = same_refl
 chain_many R (suc n) a = then_same same_refl ends_anywhere (chain_many R n a)
 
 -- the pieces of what a function gives
-pub chain-map : {A B : Type 0} {S : Positions} (R : B → Relation) (f : A → B) (es : List A) → Same S (Chain R (map f es)) (Chain (λ a. R (f a)) es)
+pub chain-map : {A B : Type 0} {S : Positions} (R : B → Relation) (f : A → B) (es : List A)
+    → Same S (Chain R (map f es)) (Chain (λ a. R (f a)) es)
 chain-map R f [] = same_refl
 chain-map R f (x ∷ es) = then_same same_refl ends_anywhere (chain-map R f es)
 
@@ -256,12 +273,14 @@ many_moves zero a = nothing_moves
 many_moves (suc n) a = then_moves a (many_moves n a)
 
 -- piece by piece
-pub chain_moves : {A : Type 0} {R Q : A → Relation} (es : List A) → ((a : A) → Moves (R a) (Q a)) → Moves (Chain R es) (Chain Q es)
+pub chain_moves : {A : Type 0} {R Q : A → Relation} (es : List A) → ((a : A) → Moves (R a) (Q a))
+    → Moves (Chain R es) (Chain Q es)
 chain_moves [] a = nothing_moves
 chain_moves (x ∷ es) a = then_moves (a x) (chain_moves es a)
 
 -- piece by piece, where the pieces of the list's elements move
-pub chain_moves_each : {A : Type 0} (R Q : A → Relation) (es : List A) → AllByRecursion (λ a. Moves (R a) (Q a)) es → Moves (Chain R es) (Chain Q es)
+pub chain_moves_each : {A : Type 0} (R Q : A → Relation) (es : List A) → AllByRecursion (λ a. Moves (R a) (Q a)) es
+    → Moves (Chain R es) (Chain Q es)
 chain_moves_each R Q [] a = nothing_moves
 chain_moves_each R Q (x ∷ es) a = then_moves a.0 (chain_moves_each R Q es a.1)
 
@@ -274,5 +293,6 @@ pub moves_same : {R Q V : Relation} → Moves R Q → Same Anywhere Q V → Move
 moves_same a e = record { at = λ p q t x h r. e.to q t x tt (a.at p q t x h r) }
 
 -- what moves stands at 8 more
-pub moves_eight : {R Q : Relation} → Moves R Q → (p : ℕ) (tape octets : List ℕ) → R p tape octets → Q (p + 8) tape octets
+pub moves_eight : {R Q : Relation} → Moves R Q → (p : ℕ) (tape octets : List ℕ) → R p tape octets
+    → Q (p + 8) tape octets
 moves_eight a p t x r = a.at p (p + 8) t x (omega arith) r

@@ -47,7 +47,11 @@ module _ (format : Format) (w : Width) where
     to = λ p t x s r. record { no_tape = r.no_tape; no_octets = nil_from_length x (r.gap.long ∙ pad_none p w s) };
     from = λ p t x s r. record {
       no_tape = r.no_tape;
-      gap = record { long = ap length r.no_octets ∙ sym (pad_none p w s); filled = subst (IsPadding format.padding) (sym r.no_octets) (padding_none format.padding) };
+      gap = record {
+        long = ap length r.no_octets ∙ sym (pad_none p w s);
+        filled =
+            subst (IsPadding format.padding) (sym r.no_octets) (padding_none format.padding);
+      };
     };
   }
 
@@ -61,7 +65,10 @@ module _ (format : Format) (w : Width) where
 
   -- a word ends where the next can stand
   word_ends : Ends (Multiples w) (Multiples w) Word
-  word_ends = record { at = λ p t x s r. subst (λ n. (p + n) % octets_in w ≡ 0) (sym (held_word_long p t x r)) (next_multiple p w s) }
+  word_ends = record {
+    at = λ p t x s r. subst (λ n. (p + n) % octets_in w ≡ 0) (sym (held_word_long p t x r))
+        (next_multiple p w s);
+  }
 
   -- a word behind its gap, which is empty
   gap_word_same : Same (Multiples w) GapWord Word
@@ -75,7 +82,8 @@ module _ (format : Format) (w : Width) where
   pub words_same : (n : ℕ) → 1 ≤ n → Same Anywhere (Many n GapWord) (Then (Gap format w) (Many n Word))
   words_same zero some = absurd (omega arith)
   words_same (suc n) some =
-      let more : Same (Multiples w) (Many n GapWord) (Many n Word) = many_same n gap_word_same (then_ends gap_ends_there word_ends) in
+      let more : Same (Multiples w) (Many n GapWord) (Many n Word) =
+      many_same n gap_word_same (then_ends gap_ends_there word_ends) in
       same_trans then_assoc (then_same same_refl gap_ends (then_same same_refl word_ends more))
 
 module _ (graph : List Node) (format : Format) (depth : ℕ) where
@@ -88,42 +96,59 @@ module _ (graph : List Node) (format : Format) (depth : ℕ) where
   MeansLeaves leaves number = Same Anywhere (Means graph format depth number) (Leaves (leaves number))
 
   -- parts one behind the other
-  parts_mean : (leaves : ℕ → List Node) (numbers : List ℕ) → AllByRecursion (MeansLeaves leaves) numbers → Same Anywhere (Chain (Means graph format depth) numbers) (Leaves (flat_map leaves numbers))
+  parts_mean : (leaves : ℕ → List Node) (numbers : List ℕ) → AllByRecursion (MeansLeaves leaves) numbers
+      → Same Anywhere (Chain (Means graph format depth) numbers) (Leaves (flat_map leaves numbers))
   parts_mean leaves [] a = same_refl
   parts_mean leaves (number ∷ numbers) a =
-      same_trans (then_same_anywhere a.0 (parts_mean leaves numbers a.1)) (same_sym (chain_add (NodeMeans graph format depth) (leaves number) (flat_map leaves numbers)))
+      same_trans (then_same_anywhere a.0 (parts_mean leaves numbers a.1))
+      (same_sym (chain_add (NodeMeans graph format depth) (leaves number) (flat_map leaves numbers)))
 
   -- a node, where it is known of the nodes that it holds
-  node_means : (leaves : ℕ → List Node) (node : Node) → AllByRecursion (MeansLeaves leaves) (held_by node) → Same Anywhere (NodeMeans graph format depth node) (Leaves (leaves_by leaves node))
+  node_means : (leaves : ℕ → List Node) (node : Node) → AllByRecursion (MeansLeaves leaves) (held_by node)
+      → Same Anywhere (NodeMeans graph format depth node) (Leaves (leaves_by leaves node))
   node_means leaves (Array elem n) a =
-      same_trans (array_means graph format depth elem n) (same_trans (same_sym (chain_many (Means graph format depth) n elem)) (parts_mean leaves (replicate n elem) (all_repeated (MeansLeaves leaves) n elem a.0)))
-  node_means leaves (Struct members) a = same_trans (struct_means graph format depth members) (parts_mean leaves members a)
-  node_means leaves (Frame members) a = same_trans (frame_means graph format depth members) (parts_mean leaves members a)
+      same_trans (array_means graph format depth elem n)
+      (same_trans (same_sym (chain_many (Means graph format depth) n elem))
+      (parts_mean leaves (replicate n elem) (all_repeated (MeansLeaves leaves) n elem a.0)))
+  node_means leaves (Struct members) a =
+      same_trans (struct_means graph format depth members) (parts_mean leaves members a)
+  node_means leaves (Frame members) a =
+      same_trans (frame_means graph format depth members) (parts_mean leaves members a)
   node_means leaves node a = same_sym (chain_one (NodeMeans graph format depth) node)
 
   -- a shallow node
-  pub leaves_mean : (levels number : ℕ) → IsShallow levels graph number → MeansLeaves (leaves_within levels graph) number
+  pub leaves_mean : (levels number : ℕ) → IsShallow levels graph number
+      → MeansLeaves (leaves_within levels graph) number
   unfolding IsShallow leaves_within
   leaves_mean zero number h = absurd h
   leaves_mean (suc levels) number h =
       node_means (leaves_within levels graph) (node_at graph number)
-      (all_weaken (IsShallow levels graph) (MeansLeaves (leaves_within levels graph)) (held_by (node_at graph number)) (λ m s. leaves_mean levels m s) h)
+      (all_weaken (IsShallow levels graph) (MeansLeaves (leaves_within levels graph)) (held_by (node_at graph number))
+      (λ m s. leaves_mean levels m s) h)
 
   -- a node whose values are words
-  word_means : (w : Width) (node : Node) → IsWordOf w node → Same Anywhere (NodeMeans graph format depth node) (GapWord format w)
-  word_means w (Integer v signed) a = subst (λ (u : Width). Same Anywhere (NodeMeans graph format depth (Integer v signed)) (GapWord format u)) a.width (whole_means graph format depth v signed)
-  word_means w Octet a = subst (λ (u : Width). Same Anywhere (NodeMeans graph format depth Octet) (GapWord format u)) a.width (octet_means_gap graph format depth)
-  word_means w Char a = subst (λ (u : Width). Same Anywhere (NodeMeans graph format depth Char) (GapWord format u)) a.width (char_means_gap graph format depth)
+  word_means : (w : Width) (node : Node) → IsWordOf w node
+      → Same Anywhere (NodeMeans graph format depth node) (GapWord format w)
+  word_means w (Integer v signed) a =
+      subst (λ (u : Width). Same Anywhere (NodeMeans graph format depth (Integer v signed)) (GapWord format u)) a.width
+      (whole_means graph format depth v signed)
+  word_means w Octet a = subst (λ (u : Width). Same Anywhere (NodeMeans graph format depth Octet) (GapWord format u))
+      a.width (octet_means_gap graph format depth)
+  word_means w Char a = subst (λ (u : Width). Same Anywhere (NodeMeans graph format depth Char) (GapWord format u))
+      a.width (char_means_gap graph format depth)
   word_means w node a = absurd a.plain
 
   -- leaves that are words
-  leaves_words : (w : Width) (leaves : List Node) → AllByRecursion (IsWordOf w) leaves → Same Anywhere (Leaves leaves) (Many (length leaves) (GapWord format w))
+  leaves_words : (w : Width) (leaves : List Node) → AllByRecursion (IsWordOf w) leaves
+      → Same Anywhere (Leaves leaves) (Many (length leaves) (GapWord format w))
   leaves_words w [] a = same_refl
   leaves_words w (leaf ∷ leaves) a = then_same_anywhere (word_means w leaf a.0) (leaves_words w leaves a.1)
 
   -- a uniform node of a graph: the gap to its width, and so many words
-  pub uniform_means : IsGraph graph → (w : Width) (n number : ℕ) → IsUniform graph w n number → Same Anywhere (Means graph format depth number) (Then (Gap format w) (Many n (AnyWord format w)))
+  pub uniform_means : IsGraph graph → (w : Width) (n number : ℕ) → IsUniform graph w n number
+      → Same Anywhere (Means graph format depth number) (Then (Gap format w) (Many n (AnyWord format w)))
   uniform_means rules w n number u =
       let made = leaves_mean 64 number (shallow_all graph rules number) in
-      let words = subst (λ (k : ℕ). Same Anywhere (Leaves (leaves_of graph number)) (Many k (GapWord format w))) u.long (leaves_words w (leaves_of graph number) u.words) in
+      let words = subst (λ (k : ℕ). Same Anywhere (Leaves (leaves_of graph number)) (Many k (GapWord format w))) u.long
+      (leaves_words w (leaves_of graph number) u.words) in
       same_trans made (same_trans words (words_same format w n u.some))

@@ -49,7 +49,8 @@ pad_moved p q Four h = omega arith
 pad_moved p q Eight h = omega arith
 
 -- two gaps are as long as that of the wider
-pub pad_wider : (p : ℕ) (w v : Width) → pad p (octets_in w) + pad (p + pad p (octets_in w)) (octets_in v) ≡ pad p (octets_in (wider w v))
+pub pad_wider : (p : ℕ) (w v : Width) → pad p (octets_in w) + pad (p + pad p (octets_in w)) (octets_in v)
+    ≡ pad p (octets_in (wider w v))
 pad_wider p One One = omega arith
 pad_wider p One Two = omega arith
 pad_wider p One Four = omega arith
@@ -70,7 +71,8 @@ pad_wider p Eight Eight = omega arith
 -- ---- what holds of each
 
 -- of two lists, of the one behind the other
-pub all_append : {A : Type 0} (P : A → Type 0) (xs ys : List A) → AllByRecursion P xs → AllByRecursion P ys → AllByRecursion P (xs ++ ys)
+pub all_append : {A : Type 0} (P : A → Type 0) (xs ys : List A) → AllByRecursion P xs → AllByRecursion P ys
+    → AllByRecursion P (xs ++ ys)
 all_append P [] ys a b = b
 all_append P (x ∷ xs) ys a b = (a.0, all_append P xs ys a.1 b)
 
@@ -85,7 +87,8 @@ all_back P [] ys a = a
 all_back P (x ∷ xs) ys a = all_back P xs ys a.1
 
 -- where it implies another
-pub all_weaken : {A : Type 0} (P Q : A → Type 0) (xs : List A) → ((x : A) → P x → Q x) → AllByRecursion P xs → AllByRecursion Q xs
+pub all_weaken : {A : Type 0} (P Q : A → Type 0) (xs : List A) → ((x : A) → P x → Q x) → AllByRecursion P xs
+    → AllByRecursion Q xs
 all_weaken P Q [] f a = tt
 all_weaken P Q (x ∷ xs) f a = (f x a.0, all_weaken P Q xs f a.1)
 
@@ -106,7 +109,8 @@ zeros_only [] h = refl
 zeros_only (x ∷ xs) h = let zero_is : x ≡ 0 = omega (arith, h.0) in ap₂ (λ y ys. y ∷ ys) zero_is (zeros_only xs h.1)
 
 -- two fillings of gaps
-pub padding_append : (padding : Padding) (xs ys : List ℕ) → IsPadding padding xs → IsPadding padding ys → IsPadding padding (xs ++ ys)
+pub padding_append : (padding : Padding) (xs ys : List ℕ) → IsPadding padding xs → IsPadding padding ys
+    → IsPadding padding (xs ++ ys)
 padding_append Zeros xs ys a b = all_append (λ n. n < 1) xs ys a b
 padding_append AnyOctets xs ys a b = all_append (λ n. n < 256) xs ys a b
 
@@ -204,8 +208,10 @@ one_octet (a ∷ []) l = refl
 one_octet (a ∷ b ∷ octets) l = absurd (omega arith)
 
 -- the word of the number of octets
-pub plain_word-number_of : (o : Order) (w : Width) (octets : List ℕ) → length octets ≡ octets_in w → AllBelow 256 octets → plain_word o w (number_of o w octets) ≡ octets
-plain_word-number_of o One xs l a = plain_word_one o (get_or xs 0 0) (get_or_below 256 xs 0 (omega arith) a) ∙ sym (one_octet xs l)
+pub plain_word-number_of : (o : Order) (w : Width) (octets : List ℕ) → length octets ≡ octets_in w → AllBelow 256 octets
+    → plain_word o w (number_of o w octets) ≡ octets
+plain_word-number_of o One xs l a = plain_word_one o (get_or xs 0 0) (get_or_below 256 xs 0 (omega arith) a)
+    ∙ sym (one_octet xs l)
 plain_word-number_of Big Two xs l a = be_bytes_2 xs _ l (λ i. get_or_below 256 xs i (omega arith) a) refl
 plain_word-number_of Big Four xs l a = be_bytes_4 xs _ l (λ i. get_or_below 256 xs i (omega arith) a) refl
 plain_word-number_of Big Eight xs l a = be_bytes_8 xs _ l (λ i. get_or_below 256 xs i (omega arith) a) refl
@@ -214,7 +220,8 @@ plain_word-number_of Little Four xs l a = le_bytes_4 xs _ l (λ i. get_or_below 
 plain_word-number_of Little Eight xs l a = le_bytes_8 xs _ l (λ i. get_or_below 256 xs i (omega arith) a) refl
 
 -- the number of octets is one of the width
-pub number_of_below : (o : Order) (w : Width) (octets : List ℕ) → AllBelow 256 octets → number_of o w octets < words_of w
+pub number_of_below : (o : Order) (w : Width) (octets : List ℕ) → AllBelow 256 octets
+    → number_of o w octets < words_of w
 number_of_below o One xs a = get_or_below 256 xs 0 (omega arith) a
 number_of_below Big Two xs a =
     let at = λ (i : ℕ). get_or_below 256 xs i (omega arith) a in
@@ -236,8 +243,10 @@ number_of_below Little Eight xs a =
     omega (arith, at 0, at 1, at 2, at 3, at 4, at 5, at 6, at 7)
 
 -- numbers of one word are one
-pub plain_word_same : (o : Order) (w : Width) (m n : ℕ) → m < words_of w → n < words_of w → plain_word o w m ≡ plain_word o w n → m ≡ n
-plain_word_same o w m n hm hn e = sym (number_of-plain_word o w m hm) ∙ ap (number_of o w) e ∙ number_of-plain_word o w n hn
+pub plain_word_same : (o : Order) (w : Width) (m n : ℕ) → m < words_of w → n < words_of w
+    → plain_word o w m ≡ plain_word o w n → m ≡ n
+plain_word_same o w m n hm hn e = sym (number_of-plain_word o w m hm) ∙ ap (number_of o w) e
+    ∙ number_of-plain_word o w n hn
 
 -- half of the patterns are of numbers below 0
 pub words_halves : (w : Width) → words_of w ≡ 2 ^ (8 * octets_in w - 1) + 2 ^ (8 * octets_in w - 1)
@@ -270,7 +279,8 @@ signed_of w m h =
     ]
 
 -- and of no other
-pub complement_same : (w : Width) (m n : ℤ) → IsSigned w m → IsSigned w n → twos_complement (octets_in w) m ≡ twos_complement (octets_in w) n → m ≡ n
+pub complement_same : (w : Width) (m n : ℤ) → IsSigned w m → IsSigned w n
+    → twos_complement (octets_in w) m ≡ twos_complement (octets_in w) n → m ≡ n
 complement_same w (pos m) (pos n) hm hn e = ap pos e
 complement_same w (pos m) (negsuc n) hm hn e =
     let halves = words_halves w in
@@ -284,7 +294,8 @@ complement_same w (negsuc m) (negsuc n) hm hn e =
     ap negsuc same
 
 -- numbers without a sign of one word are one
-pub below_word_same : (o : Order) (w : Width) (m n : ℤ) → IsBelow (words_of w) m → IsBelow (words_of w) n → word o w m ≡ word o w n → m ≡ n
+pub below_word_same : (o : Order) (w : Width) (m n : ℤ) → IsBelow (words_of w) m → IsBelow (words_of w) n
+    → word o w m ≡ word o w n → m ≡ n
 below_word_same o w (pos m) (pos n) hm hn e = ap pos (plain_word_same o w m n hm hn e)
 below_word_same o w (pos m) (negsuc n) hm hn e = absurd hn
 below_word_same o w (negsuc m) n hm hn e = absurd hm
@@ -292,7 +303,9 @@ below_word_same o w (negsuc m) n hm hn e = absurd hm
 -- numbers with a sign of one word are one
 pub signed_word_same : (o : Order) (w : Width) (m n : ℤ) → IsSigned w m → IsSigned w n → word o w m ≡ word o w n → m ≡ n
 signed_word_same o w m n hm hn e =
-    complement_same w m n hm hn (plain_word_same o w (twos_complement (octets_in w) m) (twos_complement (octets_in w) n) (complement_signed w m hm) (complement_signed w n hn) e)
+    complement_same w m n hm hn
+    (plain_word_same o w (twos_complement (octets_in w) m) (twos_complement (octets_in w) n)
+    (complement_signed w m hm) (complement_signed w n hn) e)
 
 -- every string of so many octets is the word of a number without a sign
 pub below_of_octets : (o : Order) (w : Width) (octets : List ℕ) → length octets ≡ octets_in w → AllBelow 256 octets

@@ -21,11 +21,13 @@ length-zeros zero = refl
 length-zeros (suc n) = let more = length-zeros n in omega arith
 
 -- one behind the other
-pub joined : (A B : Encoding) (p : ℕ) (octets1 octets2 : List ℕ) → A p octets1 → B (p + length octets1) octets2 → Joined A B p (octets1 ++ octets2)
+pub joined : (A B : Encoding) (p : ℕ) (octets1 octets2 : List ℕ) → A p octets1 → B (p + length octets1) octets2
+    → Joined A B p (octets1 ++ octets2)
 joined A B p x1 x2 a b = record { octets1 = x1; octets2 = x2; octets_is = refl; first = a; second = b }
 
 -- a number behind zeros
-pub aligned : (o : Order) (w : Width) (n : ℤ) (p k : ℕ) → k ≡ pad p (octets_in w) → Aligned (zeros_in o) w n p (replicate k 0 ++ word o w n)
+pub aligned : (o : Order) (w : Width) (n : ℤ) (p k : ℕ) → k ≡ pad p (octets_in w)
+    → Aligned (zeros_in o) w n p (replicate k 0 ++ word o w n)
 aligned o w n p k e = record {
   octets1 = replicate k 0;
   octets2 = word o w n;
@@ -50,7 +52,21 @@ seven_one_hi = Items (AndTree (Number (pos 7)) (AndTree (Number (pos 1)) (AndTre
 
 -- it is a value of the structure
 seven_one_hi_fits : Fits three_parts (Struct (0 ∷ 1 ∷ 2 ∷ [])) seven_one_hi 64
-seven_one_hi_fits = (omega arith, (omega arith, (record { in_bound = tt; short = omega arith; octets = ((omega arith, omega arith), ((omega arith, omega arith), tt)) }, tt)))
+seven_one_hi_fits = (
+  omega arith,
+  (
+    omega arith,
+    (
+      record {
+        in_bound = tt;
+        short = omega arith;
+        octets =
+            ((omega arith, omega arith), ((omega arith, omega arith), tt));
+      },
+      tt,
+    ),
+  ),
+)
 
 -- the tape
 pub tape_of-seven_one_hi : tape_of three_parts (Struct (0 ∷ 1 ∷ 2 ∷ [])) seven_one_hi
@@ -65,7 +81,9 @@ seven_one_hi_big = record {
   value = seven_one_hi;
   fits = seven_one_hi_fits;
   tape_is = refl;
-  encodes = joined _ _ 0 _ _ (aligned Big One (pos 7) 0 0 refl) (joined _ _ 1 _ _ (aligned Big Four (pos 1) 1 3 refl) (joined _ _ 8 _ _ (joined _ _ 8 _ _ (aligned Big Four (pos 3) 8 0 refl) refl) (no_more 15)));
+  encodes = joined _ _ 0 _ _ (aligned Big One (pos 7) 0 0 refl)
+      (joined _ _ 1 _ _ (aligned Big Four (pos 1) 1 3 refl)
+      (joined _ _ 8 _ _ (joined _ _ 8 _ _ (aligned Big Four (pos 3) 8 0 refl) refl) (no_more 15)));
 }
 
 -- in big order, at position 3
@@ -76,7 +94,9 @@ seven_one_hi_big_3 = record {
   value = seven_one_hi;
   fits = seven_one_hi_fits;
   tape_is = refl;
-  encodes = joined _ _ 3 _ _ (aligned Big One (pos 7) 3 0 refl) (joined _ _ 4 _ _ (aligned Big Four (pos 1) 4 0 refl) (joined _ _ 8 _ _ (joined _ _ 8 _ _ (aligned Big Four (pos 3) 8 0 refl) refl) (no_more 15)));
+  encodes = joined _ _ 3 _ _ (aligned Big One (pos 7) 3 0 refl)
+      (joined _ _ 4 _ _ (aligned Big Four (pos 1) 4 0 refl)
+      (joined _ _ 8 _ _ (joined _ _ 8 _ _ (aligned Big Four (pos 3) 8 0 refl) refl) (no_more 15)));
 }
 
 -- in little order, at position 0
@@ -87,7 +107,9 @@ seven_one_hi_little = record {
   value = seven_one_hi;
   fits = seven_one_hi_fits;
   tape_is = refl;
-  encodes = joined _ _ 0 _ _ (aligned Little One (pos 7) 0 0 refl) (joined _ _ 1 _ _ (aligned Little Four (pos 1) 1 3 refl) (joined _ _ 8 _ _ (joined _ _ 8 _ _ (aligned Little Four (pos 3) 8 0 refl) refl) (no_more 15)));
+  encodes = joined _ _ 0 _ _ (aligned Little One (pos 7) 0 0 refl)
+      (joined _ _ 1 _ _ (aligned Little Four (pos 1) 1 3 refl)
+      (joined _ _ 8 _ _ (joined _ _ 8 _ _ (aligned Little Four (pos 3) 8 0 refl) refl) (no_more 15)));
 }
 
 -- ---- a sequence of signed long long
@@ -122,7 +144,8 @@ long_long_five = record {
   value = Items (AndTree (Number (pos 5)) NoTree);
   fits = (omega arith, record { in_bound = tt; short = omega arith }, (omega arith, tt));
   tape_is = refl;
-  encodes = joined _ _ 0 _ _ (aligned Big Four (pos 1) 0 0 refl) (joined _ _ 4 _ _ (aligned Big Eight (pos 5) 4 4 refl) (no_more 16));
+  encodes = joined _ _ 0 _ _ (aligned Big Four (pos 1) 0 0 refl)
+      (joined _ _ 4 _ _ (aligned Big Eight (pos 5) 4 4 refl) (no_more 16));
 }
 
 -- 5, at position 4
@@ -133,7 +156,8 @@ long_long_five_4 = record {
   value = Items (AndTree (Number (pos 5)) NoTree);
   fits = (omega arith, record { in_bound = tt; short = omega arith }, (omega arith, tt));
   tape_is = refl;
-  encodes = joined _ _ 4 _ _ (aligned Big Four (pos 1) 4 0 refl) (joined _ _ 8 _ _ (aligned Big Eight (pos 5) 8 0 refl) (no_more 16));
+  encodes = joined _ _ 4 _ _ (aligned Big Four (pos 1) 4 0 refl)
+      (joined _ _ 8 _ _ (aligned Big Eight (pos 5) 8 0 refl) (no_more 16));
 }
 
 -- ---- a structure that holds a sequence of itself: an octet, and its kids
@@ -148,14 +172,24 @@ childless v = Items (AndTree (Number v) (AndTree (Items NoTree) NoTree))
 
 -- 1, whose kids are 2 and 3
 abbrev pub one_and_kids : Tree
-one_and_kids = Items (AndTree (Number (pos 1)) (AndTree (Items (AndTree (childless (pos 2)) (AndTree (childless (pos 3)) NoTree))) NoTree))
+one_and_kids = Items (AndTree (Number (pos 1))
+    (AndTree (Items (AndTree (childless (pos 2)) (AndTree (childless (pos 3)) NoTree))) NoTree))
 
 -- it is a value of the structure
 one_and_kids_fits : Fits family (Struct (0 ∷ 2 ∷ [])) one_and_kids 64
 one_and_kids_fits =
     let empty : IsCount 0 0 = record { in_bound = tt; short = omega arith } in
-    let two : IsCount 0 2 = record { in_bound = tt; short = omega arith } in
-    (omega arith, ((omega arith, two, ((omega arith, ((omega arith, empty, tt), tt)), ((omega arith, ((omega arith, empty, tt), tt)), tt))), tt))
+    let two : IsCount 0 2 = record { in_bound = tt; short = omega arith } in (
+      omega arith,
+      (
+        (
+          omega arith,
+          two,
+          ((omega arith, ((omega arith, empty, tt), tt)), ((omega arith, ((omega arith, empty, tt), tt)), tt)),
+        ),
+        tt,
+      ),
+    )
 
 -- at position 0
 pub one_and_kids_big : Means family (zeros_in Big) 64 1 0
@@ -165,9 +199,13 @@ one_and_kids_big = record {
   value = one_and_kids;
   fits = one_and_kids_fits;
   tape_is = refl;
-  encodes = joined _ _ 0 _ _ (aligned Big One (pos 1) 0 0 refl) (joined _ _ 1 _ _ (joined _ _ 1 _ _ (aligned Big Four (pos 2) 1 3 refl)
-      (joined _ _ 8 _ _ (joined _ _ 8 _ _ (aligned Big One (pos 2) 8 0 refl) (joined _ _ 9 _ _ (joined _ _ 9 _ _ (aligned Big Four (pos 0) 9 3 refl) (no_more 16)) (no_more 16)))
-      (joined _ _ 16 _ _ (joined _ _ 16 _ _ (aligned Big One (pos 3) 16 0 refl) (joined _ _ 17 _ _ (joined _ _ 17 _ _ (aligned Big Four (pos 0) 17 3 refl) (no_more 24)) (no_more 24))) (no_more 24)))) (no_more 24));
+  encodes = joined _ _ 0 _ _ (aligned Big One (pos 1) 0 0 refl)
+      (joined _ _ 1 _ _ (joined _ _ 1 _ _ (aligned Big Four (pos 2) 1 3 refl)
+      (joined _ _ 8 _ _ (joined _ _ 8 _ _ (aligned Big One (pos 2) 8 0 refl)
+      (joined _ _ 9 _ _ (joined _ _ 9 _ _ (aligned Big Four (pos 0) 9 3 refl) (no_more 16)) (no_more 16)))
+      (joined _ _ 16 _ _ (joined _ _ 16 _ _ (aligned Big One (pos 3) 16 0 refl)
+      (joined _ _ 17 _ _ (joined _ _ 17 _ _ (aligned Big Four (pos 0) 17 3 refl) (no_more 24)) (no_more 24)))
+      (no_more 24)))) (no_more 24));
 }
 
 -- at position 1
@@ -178,9 +216,13 @@ one_and_kids_big_1 = record {
   value = one_and_kids;
   fits = one_and_kids_fits;
   tape_is = refl;
-  encodes = joined _ _ 1 _ _ (aligned Big One (pos 1) 1 0 refl) (joined _ _ 2 _ _ (joined _ _ 2 _ _ (aligned Big Four (pos 2) 2 2 refl)
-      (joined _ _ 8 _ _ (joined _ _ 8 _ _ (aligned Big One (pos 2) 8 0 refl) (joined _ _ 9 _ _ (joined _ _ 9 _ _ (aligned Big Four (pos 0) 9 3 refl) (no_more 16)) (no_more 16)))
-      (joined _ _ 16 _ _ (joined _ _ 16 _ _ (aligned Big One (pos 3) 16 0 refl) (joined _ _ 17 _ _ (joined _ _ 17 _ _ (aligned Big Four (pos 0) 17 3 refl) (no_more 24)) (no_more 24))) (no_more 24)))) (no_more 24));
+  encodes = joined _ _ 1 _ _ (aligned Big One (pos 1) 1 0 refl)
+      (joined _ _ 2 _ _ (joined _ _ 2 _ _ (aligned Big Four (pos 2) 2 2 refl)
+      (joined _ _ 8 _ _ (joined _ _ 8 _ _ (aligned Big One (pos 2) 8 0 refl)
+      (joined _ _ 9 _ _ (joined _ _ 9 _ _ (aligned Big Four (pos 0) 9 3 refl) (no_more 16)) (no_more 16)))
+      (joined _ _ 16 _ _ (joined _ _ 16 _ _ (aligned Big One (pos 3) 16 0 refl)
+      (joined _ _ 17 _ _ (joined _ _ 17 _ _ (aligned Big Four (pos 0) 17 3 refl) (no_more 24)) (no_more 24)))
+      (no_more 24)))) (no_more 24));
 }
 
 -- ---- a union over a boolean with an arm for TRUE alone, a signed short
@@ -204,5 +246,6 @@ short_minus_two = record {
   value = Choice (pos 1) (AndTree (Number (negsuc 1)) NoTree);
   fits = (omega arith, (omega arith, tt));
   tape_is = refl;
-  encodes = joined _ _ 0 _ _ (aligned Big One (pos 1) 0 0 refl) (joined _ _ 1 _ _ (aligned Big Two (negsuc 1) 1 1 refl) (no_more 4));
+  encodes = joined _ _ 0 _ _ (aligned Big One (pos 1) 0 0 refl)
+      (joined _ _ 1 _ _ (aligned Big Two (negsuc 1) 1 1 refl) (no_more 4));
 }

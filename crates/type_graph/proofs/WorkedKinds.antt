@@ -15,20 +15,34 @@ use Rattle.type_graph.proofs.Worked.{zeros_in, joined, aligned, no_more, family}
 
 -- the third of three enumerators, in little order, at position 2
 pub third_little_2 : Means (Enum 3 ∷ []) (zeros_in Little) 64 0 2 (0 ∷ 0 ∷ 0 ∷ 2 ∷ []) (0 ∷ 0 ∷ 2 ∷ 0 ∷ 0 ∷ 0 ∷ [])
-third_little_2 = record { value = Number (pos 2); fits = omega arith; tape_is = refl; encodes = aligned Little Four (pos 2) 2 2 refl }
+third_little_2 = record {
+  value = Number (pos 2);
+  fits = omega arith;
+  tape_is = refl;
+  encodes =
+      aligned Little Four (pos 2) 2 2 refl;
+}
 
 -- an array of two shorts, at position 1: one gap stands before the first
-pub two_shorts_1 : Means (Integer Two false ∷ Array 0 2 ∷ []) (zeros_in Big) 64 1 1 (0 ∷ 1 ∷ 0 ∷ 2 ∷ []) (0 ∷ 0 ∷ 1 ∷ 0 ∷ 2 ∷ [])
+pub two_shorts_1 : Means (Integer Two false ∷ Array 0 2 ∷ []) (zeros_in Big) 64 1 1 (0 ∷ 1 ∷ 0 ∷ 2 ∷ [])
+    (0 ∷ 0 ∷ 1 ∷ 0 ∷ 2 ∷ [])
 two_shorts_1 = record {
   value = Items (AndTree (Number (pos 1)) (AndTree (Number (pos 2)) NoTree));
   fits = (omega arith, (omega arith, tt));
   tape_is = refl;
-  encodes = joined _ _ 1 _ _ (aligned Big Two (pos 1) 1 1 refl) (joined _ _ 4 _ _ (aligned Big Two (pos 2) 4 0 refl) (no_more 6));
+  encodes = joined _ _ 1 _ _ (aligned Big Two (pos 1) 1 1 refl)
+      (joined _ _ 4 _ _ (aligned Big Two (pos 2) 4 0 refl) (no_more 6));
 }
 
 -- a character is any octet
 pub character_ff : Means (Char ∷ []) (zeros_in Little) 64 0 5 (0xFF ∷ []) (0xFF ∷ [])
-character_ff = record { value = Number (pos 255); fits = omega arith; tape_is = refl; encodes = aligned Little One (pos 255) 5 0 refl }
+character_ff = record {
+  value = Number (pos 255);
+  fits = omega arith;
+  tape_is = refl;
+  encodes =
+      aligned Little One (pos 255) 5 0 refl;
+}
 
 -- a frame without members
 pub nothing_in_a_frame : Means (Frame [] ∷ []) (zeros_in Big) 64 0 3 [] []
@@ -57,7 +71,8 @@ first_of_gap [] rest a more long e = absurd (omega arith)
 first_of_gap (b ∷ []) rest a more long e = let same : a ≡ b = cc in ap (λ n. n ∷ []) (sym same)
 first_of_gap (b ∷ c ∷ gap) rest a more long e = absurd (omega arith)
 
-not_written : (value : Tree) → Fits (Integer Two false ∷ []) (Integer Two false) value 64 → Encodes (writing Big) (Integer Two false ∷ []) (Integer Two false) value 1 (0xEE ∷ 0 ∷ 7 ∷ []) → ⊥
+not_written : (value : Tree) → Fits (Integer Two false ∷ []) (Integer Two false) value 64
+    → Encodes (writing Big) (Integer Two false ∷ []) (Integer Two false) value 1 (0xEE ∷ 0 ∷ 7 ∷ []) → ⊥
 not_written (Number n) fits e =
     let gap = first_of_gap e.octets1 e.octets2 0xEE (0 ∷ 7 ∷ []) e.first.long e.octets_is in
     let zeros : AllBelow 1 (0xEE ∷ []) = subst (AllBelow 1) gap e.first.filled in
@@ -68,7 +83,8 @@ not_written (Items values) fits e = absurd fits
 not_written (Choice label values) fits e = absurd fits
 
 -- it isn't written
-pub gap_is_not_written : (tape : List ℕ) → Means (Integer Two false ∷ []) (writing Big) 64 0 1 tape (0xEE ∷ 0 ∷ 7 ∷ []) → ⊥
+pub gap_is_not_written : (tape : List ℕ) → Means (Integer Two false ∷ []) (writing Big) 64 0 1 tape (0xEE ∷ 0 ∷ 7 ∷ [])
+    → ⊥
 gap_is_not_written tape means = not_written means.value means.fits means.encodes
 
 -- ---- what is no value
@@ -85,7 +101,8 @@ zero_inside h = let zero_octet = h.octets.1.0.0 in absurd (omega (arith, zero_oc
 pub string_over_its_bound : Fits [] (Text 1) (Bytes (104 ∷ 105 ∷ [])) 64 → ⊥
 string_over_its_bound h = let bound = h.in_bound in absurd (omega (arith, bound))
 
-pub sequence_over_its_bound : Fits (Octet ∷ []) (Seq 0 1) (Items (AndTree (Number (pos 1)) (AndTree (Number (pos 2)) NoTree))) 64 → ⊥
+pub sequence_over_its_bound : Fits (Octet ∷ []) (Seq 0 1)
+    (Items (AndTree (Number (pos 1)) (AndTree (Number (pos 2)) NoTree))) 64 → ⊥
 sequence_over_its_bound h = let bound = h.1.in_bound in absurd (omega (arith, bound))
 
 -- a value whose sequences lie so deep one inside another
@@ -104,7 +121,8 @@ deep_needs (suc n) depth h =
 pub sixty_five_deep : Fits family (Struct (0 ∷ 2 ∷ [])) (deep 64) 64 → ⊥
 sixty_five_deep h = let needs = deep_needs 64 64 h in absurd (omega (arith, needs))
 
-no_such_string : (value : Tree) → Fits (Text 0 ∷ []) (Text 0) value 64 → Encodes (reading Big) (Text 0 ∷ []) (Text 0) value 0 (0 ∷ 0 ∷ 0 ∷ 0 ∷ []) → ⊥
+no_such_string : (value : Tree) → Fits (Text 0 ∷ []) (Text 0) value 64
+    → Encodes (reading Big) (Text 0 ∷ []) (Text 0) value 0 (0 ∷ 0 ∷ 0 ∷ 0 ∷ []) → ⊥
 no_such_string (Number n) fits e = absurd fits
 no_such_string (Bytes text) fits e =
     let said : List ℕ = word Big Four (pos (suc (length text))) in

@@ -21,11 +21,23 @@ unsigned = record { plain = tt; width = refl }
 
 three_longs : IsUniform longs Four 3 2
 unfolding leaves_within
-three_longs = record { words = (signed, (signed, (signed, tt))); long = refl; some = omega arith; limited = omega arith }
+three_longs = record {
+  words = (signed, (signed, (signed, tt)));
+  long = refl;
+  some = omega arith;
+  limited =
+      omega arith;
+}
 
 array_of_arrays : IsUniform longs Four 6 3
 unfolding leaves_within
-array_of_arrays = record { words = (signed, (signed, (signed, (signed, (signed, (signed, tt)))))); long = refl; some = omega arith; limited = omega arith }
+array_of_arrays = record {
+  words = (signed, (signed, (signed, (signed, (signed, (signed, tt))))));
+  long = refl;
+  some =
+      omega arith;
+  limited = omega arith;
+}
 
 both_longs : IsUniform longs Four 2 4
 unfolding leaves_within
@@ -40,7 +52,13 @@ octet = record { plain = tt; width = refl }
 
 four_octets : IsUniform octets One 4 2
 unfolding leaves_within
-four_octets = record { words = (octet, (octet, (octet, (octet, tt)))); long = refl; some = omega arith; limited = omega arith }
+four_octets = record {
+  words = (octet, (octet, (octet, (octet, tt))));
+  long = refl;
+  some = omega arith;
+  limited =
+      omega arith;
+}
 
 -- a boolean has a range to keep
 boolean_is_none : (w : Width) (n : ℕ) → IsUniform (Boolean ∷ []) w n 0 → ⊥
@@ -70,7 +88,8 @@ zeros_of_sample = refl
 
 -- unions over a boolean: the first has nothing for 0, the second a default, the third an arm
 abbrev unions : List Node
-unions = Boolean ∷ Integer Eight true ∷ Integer Two true ∷ Union 0 ((pos 1, 1) ∷ []) None ∷ Union 0 ((pos 1, 1) ∷ []) (Some 2) ∷ Union 0 ((pos 0, 2) ∷ (pos 1, 1) ∷ []) None ∷ []
+unions = Boolean ∷ Integer Eight true ∷ Integer Two true ∷ Union 0 ((pos 1, 1) ∷ []) None
+    ∷ Union 0 ((pos 1, 1) ∷ []) (Some 2) ∷ Union 0 ((pos 0, 2) ∷ (pos 1, 1) ∷ []) None ∷ []
 
 zeros_without_member : tape_of unions (node_at unions 3) (zero_of unions 3) ≡ 0 ∷ []
 unfolding zero_value

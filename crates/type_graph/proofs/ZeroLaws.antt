@@ -32,14 +32,17 @@ module _ (graph : List Node) where
   HasZeros tree size number = tape_of graph (node_at graph number) (tree number) ≡ replicate (size number) 0
 
   -- tapes of zeros joined are one
-  zeros_of : (tree : ℕ → Tree) (size : ℕ → ℕ) (numbers : List ℕ) → AllByRecursion (HasZeros tree size) numbers → tapes_of graph numbers (trees_of tree numbers) ≡ replicate (sum_by size numbers) 0
+  zeros_of : (tree : ℕ → Tree) (size : ℕ → ℕ) (numbers : List ℕ) → AllByRecursion (HasZeros tree size) numbers
+      → tapes_of graph numbers (trees_of tree numbers) ≡ replicate (sum_by size numbers) 0
   zeros_of tree size [] a = refl
   zeros_of tree size (number ∷ numbers) a =
-      ap₂ (λ front back. front ++ back) a.0 (zeros_of tree size numbers a.1) ∙ replicate-append-replicate (size number) (sum_by size numbers) 0
+      ap₂ (λ front back. front ++ back) a.0 (zeros_of tree size numbers a.1)
+      ∙ replicate-append-replicate (size number) (sum_by size numbers) 0
       ∙ ap (λ n. replicate n 0) (sym (sum_by-cons size number numbers))
 
   -- a node's zeros, where those of the nodes that it holds are known
-  zeros_by : (tree : ℕ → Tree) (size : ℕ → ℕ) (node : Node) → AllByRecursion (HasZeros tree size) (held_by node) → tape_of graph node (zero_by tree node) ≡ replicate (size_by size graph node) 0
+  zeros_by : (tree : ℕ → Tree) (size : ℕ → ℕ) (node : Node) → AllByRecursion (HasZeros tree size) (held_by node)
+      → tape_of graph node (zero_by tree node) ≡ replicate (size_by size graph node) 0
   zeros_by tree size (Integer w signed) a = zero_word w
   zeros_by tree size Octet a = zero_word One
   zeros_by tree size Char a = zero_word One
@@ -47,21 +50,26 @@ module _ (graph : List Node) where
   zeros_by tree size (Enum n) a = zero_word Four
   zeros_by tree size (Text bound) a = refl
   zeros_by tree size (Seq elem bound) a = refl
-  zeros_by tree size (Array elem n) a = zeros_of tree size (replicate n elem) (all_repeated (HasZeros tree size) n elem a.0)
+  zeros_by tree size (Array elem n) a =
+      zeros_of tree size (replicate n elem) (all_repeated (HasZeros tree size) n elem a.0)
   zeros_by tree size (Struct members) a = zeros_of tree size members a
   zeros_by tree size (Frame members) a = zeros_of tree size members a
   zeros_by tree size (Union switch arms default) a =
-      let chosen = zeros_of tree size (arm_of arms default (pos 0)) (all_chosen (HasZeros tree size) arms default (pos 0) a) in
+      let chosen = zeros_of tree size (arm_of arms default (pos 0))
+      (all_chosen (HasZeros tree size) arms default (pos 0) a) in
       let w = number_width (node_at graph switch) in
-      ap₂ (λ front back. front ++ back) (zero_word w) chosen ∙ replicate-append-replicate (octets_in w) (sum_by size (arm_of arms default (pos 0))) 0
+      ap₂ (λ front back. front ++ back) (zero_word w) chosen
+      ∙ replicate-append-replicate (octets_in w) (sum_by size (arm_of arms default (pos 0))) 0
 
   -- the tape of a shallow node's zeros
-  pub zeros_within : (levels number : ℕ) → IsShallow levels graph number → HasZeros (zero_value levels graph) (size_within levels graph) number
+  pub zeros_within : (levels number : ℕ) → IsShallow levels graph number
+      → HasZeros (zero_value levels graph) (size_within levels graph) number
   unfolding IsShallow zero_value size_within
   zeros_within zero number h = absurd h
   zeros_within (suc levels) number h =
       zeros_by (zero_value levels graph) (size_within levels graph) (node_at graph number)
-      (all_weaken (IsShallow levels graph) (HasZeros (zero_value levels graph) (size_within levels graph)) (held_by (node_at graph number)) (λ m s. zeros_within levels m s) h)
+      (all_weaken (IsShallow levels graph) (HasZeros (zero_value levels graph) (size_within levels graph))
+      (held_by (node_at graph number)) (λ m s. zeros_within levels m s) h)
 
   -- zero is a value where it needs a rule of the graph to be one
   abbrev pub TakesZero : Node → Type 0
@@ -74,7 +82,8 @@ module _ (graph : List Node) where
   FitsZero depth tree number = Fits graph (node_at graph number) (tree number) depth
 
   -- values of zeros fit their nodes
-  fit_zeros : (depth : ℕ) (tree : ℕ → Tree) (numbers : List ℕ) → AllByRecursion (FitsZero depth tree) numbers → FitAll graph numbers (trees_of tree numbers) depth
+  fit_zeros : (depth : ℕ) (tree : ℕ → Tree) (numbers : List ℕ) → AllByRecursion (FitsZero depth tree) numbers
+      → FitAll graph numbers (trees_of tree numbers) depth
   fit_zeros depth tree [] a = tt
   fit_zeros depth tree (number ∷ numbers) a = (a.0, fit_zeros depth tree numbers a.1)
 
@@ -104,26 +113,32 @@ module _ (graph : List Node) where
   none_in_bound (suc b) = omega arith
 
   -- a node's zeros fit where those of the nodes that it holds do
-  fits_by : (depth : ℕ) → 1 ≤ depth → (tree : ℕ → Tree) (node : Node) → TakesZero node → AllByRecursion (FitsZero depth tree) (held_by node) → Fits graph node (zero_by tree node) depth
+  fits_by : (depth : ℕ) → 1 ≤ depth → (tree : ℕ → Tree) (node : Node) → TakesZero node
+      → AllByRecursion (FitsZero depth tree) (held_by node) → Fits graph node (zero_by tree node) depth
   fits_by depth deep tree (Integer w signed) z a = numeric_zero (Integer w signed) tt z
   fits_by depth deep tree Octet z a = numeric_zero Octet tt z
   fits_by depth deep tree Char z a = numeric_zero Char tt z
   fits_by depth deep tree Boolean z a = numeric_zero Boolean tt z
   fits_by depth deep tree (Enum n) z a = numeric_zero (Enum n) tt z
   fits_by depth deep tree (Text bound) z a = record { in_bound = none_in_bound bound; short = omega arith; octets = tt }
-  fits_by depth deep tree (Seq elem bound) z a = (deep, record { in_bound = none_in_bound bound; short = omega arith }, tt)
-  fits_by depth deep tree (Array elem n) z a = fit_zeros depth tree (replicate n elem) (all_repeated (FitsZero depth tree) n elem a.0)
+  fits_by depth deep tree (Seq elem bound) z a =
+      (deep, record { in_bound = none_in_bound bound; short = omega arith }, tt)
+  fits_by depth deep tree (Array elem n) z a =
+      fit_zeros depth tree (replicate n elem) (all_repeated (FitsZero depth tree) n elem a.0)
   fits_by depth deep tree (Struct members) z a = fit_zeros depth tree members a
   fits_by depth deep tree (Frame members) z a = fit_zeros depth tree members a
-  fits_by depth deep tree (Union switch arms default) z a = (z, fit_zeros depth tree (arm_of arms default (pos 0)) (all_chosen (FitsZero depth tree) arms default (pos 0) a))
+  fits_by depth deep tree (Union switch arms default) z a =
+      (z, fit_zeros depth tree (arm_of arms default (pos 0)) (all_chosen (FitsZero depth tree) arms default (pos 0) a))
 
   -- the zeros of a shallow node fit it
-  pub zero_fits : ((number : ℕ) → TakesZero (node_at graph number)) → (depth : ℕ) → 1 ≤ depth → (levels number : ℕ) → IsShallow levels graph number → FitsZero depth (zero_value levels graph) number
+  pub zero_fits : ((number : ℕ) → TakesZero (node_at graph number)) → (depth : ℕ) → 1 ≤ depth → (levels number : ℕ)
+      → IsShallow levels graph number → FitsZero depth (zero_value levels graph) number
   unfolding IsShallow zero_value
   zero_fits takes depth deep zero number h = absurd h
   zero_fits takes depth deep (suc levels) number h =
       fits_by depth deep (zero_value levels graph) (node_at graph number) (takes number)
-      (all_weaken (IsShallow levels graph) (FitsZero depth (zero_value levels graph)) (held_by (node_at graph number)) (λ m s. zero_fits takes depth deep levels m s) h)
+      (all_weaken (IsShallow levels graph) (FitsZero depth (zero_value levels graph)) (held_by (node_at graph number))
+      (λ m s. zero_fits takes depth deep levels m s) h)
 
 -- 0 is a value of a discriminator
 switch_zero : (graph : List Node) (node : Node) → IsSwitch node → IsNode graph node → IsNumber node (pos 0)
@@ -134,7 +149,8 @@ switch_zero graph (Enum n) s h = h.0
 switch_zero graph node s h = absurd s
 
 -- of the one of a union too
-zero_at_switch : (graph : List Node) (switch : ℕ) → IsGraph graph → (found : Option Node) → slice_get graph switch ≡ found → IsSomeAnd found IsSwitch → IsNumber (node_at graph switch) (pos 0)
+zero_at_switch : (graph : List Node) (switch : ℕ) → IsGraph graph → (found : Option Node)
+    → slice_get graph switch ≡ found → IsSomeAnd found IsSwitch → IsNumber (node_at graph switch) (pos 0)
 zero_at_switch graph switch rules None e s = absurd s
 zero_at_switch graph switch rules (Some node) e s =
     let is : node_at graph switch ≡ node = get_or_from_slice_get graph switch node Octet e in
@@ -144,7 +160,8 @@ zero_at_switch graph switch rules (Some node) e s =
 -- a node that keeps its rules in a graph
 node_takes_zero : (graph : List Node) → IsGraph graph → (node : Node) → IsNode graph node → TakesZero graph node
 node_takes_zero graph rules (Enum n) h = h.0
-node_takes_zero graph rules (Union switch arms default) h = zero_at_switch graph switch rules (slice_get graph switch) refl h.switches
+node_takes_zero graph rules (Union switch arms default) h =
+    zero_at_switch graph switch rules (slice_get graph switch) refl h.switches
 node_takes_zero graph rules node h = tt
 
 -- every node of a graph takes zero

@@ -4,8 +4,8 @@ ghost use Rattle.std.specs.Prelude.{◌≡◌, IfOk};
 ghost use Rattle.type_graph.specs.declared.node.Node.TheVariants.{Integer};
 ghost use Rattle.type_graph.specs.BasicNodes.{basic_nodes as the_basic_nodes};
 
-use std::alloc::{AllocError, Global};
 use crate::{Members, Node, Width};
+use std::alloc::{AllocError, Global};
 
 /// So many nodes are given to every specification.
 pub const BASIC_NODES: u32 = 14;

@@ -9,6 +9,8 @@ module _ {A : Type 0} (Keeps : A → Type 0) where
   one_breaks [] k within h all = absurd (omega arith)
   one_breaks (x ∷ xs) k within h all = h x (all k x within)
 
-  pub all_from_cases : (r : Bool) (xs : List A) → MatchBool r (AllWithin Keeps xs 0 (length xs)) ((k : ℕ) × (k < length xs) × HoldsAt (λ x. Keeps x → ⊥) xs k) → IsTrue r ↔ All Keeps xs
+  pub all_from_cases : (r : Bool) (xs : List A)
+      → MatchBool r (AllWithin Keeps xs 0 (length xs)) ((k : ℕ) × (k < length xs) × HoldsAt (λ x. Keeps x → ⊥) xs k)
+      → IsTrue r ↔ All Keeps xs
   all_from_cases true xs h = (λ _. All-from_all_within Keeps xs h, λ _. refl)
   all_from_cases false xs h = (λ e. absurd (true≢false (sym e)), λ all. absurd (one_breaks xs h.0 h.1 h.2 all))

@@ -10,7 +10,8 @@ use Rattle.type_paths.specs.Sites.{Types, line_of, own_at}
 use Rattle.type_paths.specs.Paths.{ClosesCircle, IsClosedAt, IsTooDeep, IsFaultOf}
 use Rattle.type_paths.proofs.PathLaws.{round_not_shallow}
 
-pub fault_deep : (types : Types) (fault : PathFault) → IsFaultOf types fault → EachIndex types.nodes (IsShallow 64 types.nodes) → ⊥
+pub fault_deep : (types : Types) (fault : PathFault) → IsFaultOf types fault
+    → EachIndex types.nodes (IsShallow 64 types.nodes) → ⊥
 fault_deep types (SelfHeld at) h all =
     let round = h.closes.round in round_not_shallow types at.token round 64 (all round.node round.within)
 fault_deep types (LongPath at) h all = h.deep (all h.node h.within)

@@ -75,7 +75,8 @@ record ProfilesAt (graph : List Node) (node : Node) : Type 0 where
   elem_is : ProfileNode graph (node_at graph elem)
 
 profiles_node : (graph : List Node) (node : Node) → are_profiles graph node ≡ true → ProfilesAt graph node
-profiles_node graph (Seq elem zero) e = record { elem = elem; is = refl; elem_is = profile_node graph (node_at graph elem) e }
+profiles_node graph (Seq elem zero) e =
+    record { elem = elem; is = refl; elem_is = profile_node graph (node_at graph elem) e }
 profiles_node graph node e = absurd (false≢true e)
 
 -- a reference
@@ -86,7 +87,8 @@ record ReferenceAt (graph : List Node) (members : List ℕ) : Type 0 where
   id_is : node_at graph id ≡ Text 0
   profiles_are : ProfilesAt graph (node_at graph profiles)
 
-reference_members : (graph : List Node) (members : List ℕ) → is_reference graph members ≡ true → ReferenceAt graph members
+reference_members : (graph : List Node) (members : List ℕ) → is_reference graph members ≡ true
+    → ReferenceAt graph members
 reference_members graph (id ∷ profiles ∷ []) e =
     let parts = both (is_string (node_at graph id)) (are_profiles graph (node_at graph profiles)) e in
     record {
@@ -135,19 +137,23 @@ module _ (one two : List Node) where
       subst (λ found. Fits two found value e) (sym b.is) (inside value (subst (λ found. Fits one found value d) a.is f))
     where
       inside : (value : Tree) → Fits one (Seq a.elem 0) value d → Fits two (Seq b.elem 0) value e
-      inside (Items values) g = (deep, g.1, same_each one two (d - 1) (e - 1) a.elem b.elem a.elem_is b.elem_is values g.2)
+      inside (Items values) g =
+          (deep, g.1, same_each one two (d - 1) (e - 1) a.elem b.elem a.elem_is b.elem_is values g.2)
       inside (Number n) g = absurd g
       inside (Bytes text) g = absurd g
       inside (Choice label values) g = absurd g
 
-  same_profile : (d e : ℕ) (members others : List ℕ) → ProfileAt one members → ProfileAt two others → 1 ≤ e → (values : Trees)
+  same_profile : (d e : ℕ) (members others : List ℕ) → ProfileAt one members → ProfileAt two others → 1 ≤ e
+      → (values : Trees)
       → FitAll one members values d → FitAll two others values e
   same_profile d e members others a b deep values f =
       subst (λ l. FitAll two l values e) (sym b.is) (inside values (subst (λ l. FitAll one l values d) a.is f))
     where
-      inside : (values : Trees) → FitAll one (a.tag ∷ a.octets ∷ []) values d → FitAll two (b.tag ∷ b.octets ∷ []) values e
+      inside : (values : Trees) → FitAll one (a.tag ∷ a.octets ∷ []) values d
+          → FitAll two (b.tag ∷ b.octets ∷ []) values e
       inside (AndTree tag (AndTree octets NoTree)) g = (
-        subst (λ node. Fits two node tag e) (sym b.tag_is) (same_long one two d e tag (subst (λ node. Fits one node tag d) a.tag_is g.0)),
+        subst (λ node. Fits two node tag e) (sym b.tag_is)
+            (same_long one two d e tag (subst (λ node. Fits one node tag d) a.tag_is g.0)),
         (same_octets d e (node_at one a.octets) (node_at two b.octets) a.octets_are b.octets_are deep octets g.1.0, tt),
       )
       inside (AndTree tag (AndTree octets (AndTree more values))) g = absurd g.1.1
@@ -166,22 +172,26 @@ module _ (one two : List Node) where
       inside (Choice label values) g = absurd g
 
   same_nodes : (d e m n : ℕ) → ProfileNode one (node_at one m) → ProfileNode two (node_at two n) → (values : Trees)
-      → IsDeep (Items values) (suc e) → FitAll one (replicate (count values) m) values d → FitAll two (replicate (count values) n) values e
+      → IsDeep (Items values) (suc e) → FitAll one (replicate (count values) m) values d
+      → FitAll two (replicate (count values) n) values e
   same_nodes d e m n a b NoTree deep f = tt
   same_nodes d e m n a b (AndTree value more) deep f =
       let one_deep : 1 ≤ e = omega (arith, deep) in
       (same_node d e (node_at one m) (node_at two n) a b one_deep value f.0, rest more f.1)
     where
-      rest : (more : Trees) → FitAll one (replicate (count more) m) more d → FitAll two (replicate (count more) n) more e
+      rest : (more : Trees) → FitAll one (replicate (count more) m) more d
+          → FitAll two (replicate (count more) n) more e
       rest NoTree g = tt
       rest (AndTree v vs) g =
           let one_deep : 1 ≤ e = omega (arith, deep) in
           (same_node d e (node_at one m) (node_at two n) a b one_deep v g.0, rest vs g.1)
 
-  same_profiles : (d e : ℕ) (node other : Node) → ProfilesAt one node → ProfilesAt two other → (value : Tree) → IsDeep value e
+  same_profiles : (d e : ℕ) (node other : Node) → ProfilesAt one node → ProfilesAt two other → (value : Tree)
+      → IsDeep value e
       → Fits one node value d → Fits two other value e
   same_profiles d e node other a b value deep f =
-      subst (λ found. Fits two found value e) (sym b.is) (inside value deep (subst (λ found. Fits one found value d) a.is f))
+      subst (λ found. Fits two found value e) (sym b.is)
+      (inside value deep (subst (λ found. Fits one found value d) a.is f))
     where
       once : (values : Trees) → IsDeep (Items values) e → 1 ≤ e
       once NoTree h = h
@@ -203,7 +213,8 @@ module _ (one two : List Node) where
   AreDeep (AndTree id (AndTree profiles more)) depth = IsDeep profiles depth
   AreDeep values depth = Unit {0}
 
-  pub same_reference : (d e : ℕ) (members others : List ℕ) → is_reference one members ≡ true → is_reference two others ≡ true
+  pub same_reference : (d e : ℕ) (members others : List ℕ) → is_reference one members ≡ true
+      → is_reference two others ≡ true
       → (values : Trees) → AreDeep values e → FitAll one members values d → FitAll two others values e
   same_reference d e members others p q values deep f =
       subst (λ l. FitAll two l values e) (sym b.is) (inside values deep (subst (λ l. FitAll one l values d) a.is f))
@@ -214,10 +225,16 @@ module _ (one two : List Node) where
       b : ReferenceAt two others
       b = reference_members two others q
 
-      inside : (values : Trees) → AreDeep values e → FitAll one (a.id ∷ a.profiles ∷ []) values d → FitAll two (b.id ∷ b.profiles ∷ []) values e
+      inside : (values : Trees) → AreDeep values e → FitAll one (a.id ∷ a.profiles ∷ []) values d
+          → FitAll two (b.id ∷ b.profiles ∷ []) values e
       inside (AndTree id (AndTree profiles NoTree)) h g = (
-        subst (λ node. Fits two node id e) (sym b.id_is) (same_text one two d e id (subst (λ node. Fits one node id d) a.id_is g.0)),
-        (same_profiles d e (node_at one a.profiles) (node_at two b.profiles) a.profiles_are b.profiles_are profiles h g.1.0, tt),
+        subst (λ node. Fits two node id e) (sym b.id_is)
+            (same_text one two d e id (subst (λ node. Fits one node id d) a.id_is g.0)),
+        (
+          same_profiles d e (node_at one a.profiles) (node_at two b.profiles) a.profiles_are b.profiles_are profiles h
+              g.1.0,
+          tt,
+        ),
       )
       inside (AndTree id (AndTree profiles (AndTree more values))) h g = absurd g.1.1
       inside (AndTree id NoTree) h g = absurd g.1
@@ -226,7 +243,8 @@ module _ (one two : List Node) where
 -- ---- a value that fits has its depth
 
 module _ (graph : List Node) where
-  profile_deep : (d : ℕ) (members : List ℕ) (values : Trees) → ProfileAt graph members → FitAll graph members values d → 1 ≤ d
+  profile_deep : (d : ℕ) (members : List ℕ) (values : Trees) → ProfileAt graph members → FitAll graph members values d
+      → 1 ≤ d
   profile_deep d members values a f = inside values (subst (λ l. FitAll graph l values d) a.is f)
     where
       octets_deep : (value : Tree) → Fits graph (Seq a.octets_are.elem 0) value d → 1 ≤ d
@@ -236,7 +254,8 @@ module _ (graph : List Node) where
       octets_deep (Choice label values) g = absurd g
 
       inside : (values : Trees) → FitAll graph (a.tag ∷ a.octets ∷ []) values d → 1 ≤ d
-      inside (AndTree tag (AndTree octets more)) g = octets_deep octets (subst (λ node. Fits graph node octets d) a.octets_are.is g.1.0)
+      inside (AndTree tag (AndTree octets more)) g =
+          octets_deep octets (subst (λ node. Fits graph node octets d) a.octets_are.is g.1.0)
       inside (AndTree tag NoTree) g = absurd g.1
       inside NoTree g = absurd g
 
@@ -249,7 +268,8 @@ module _ (graph : List Node) where
       inside (Bytes text) g = absurd g
       inside (Choice label values) g = absurd g
 
-  profiles_deep : (d : ℕ) (node : Node) (value : Tree) → ProfilesAt graph node → Fits graph node value d → IsDeep value d
+  profiles_deep : (d : ℕ) (node : Node) (value : Tree) → ProfilesAt graph node → Fits graph node value d
+      → IsDeep value d
   profiles_deep d node value a f = inside value (subst (λ found. Fits graph found value d) a.is f)
     where
       inside : (value : Tree) → Fits graph (Seq a.elem 0) value d → IsDeep value d
@@ -269,30 +289,36 @@ module _ (graph : List Node) where
       a = reference_members graph members p
 
       inside : (values : Trees) → FitAll graph (a.id ∷ a.profiles ∷ []) values d → AreDeep graph graph values d
-      inside (AndTree id (AndTree profiles more)) g = profiles_deep d (node_at graph a.profiles) profiles a.profiles_are g.1.0
+      inside (AndTree id (AndTree profiles more)) g =
+          profiles_deep d (node_at graph a.profiles) profiles a.profiles_are g.1.0
       inside (AndTree id NoTree) g = tt
       inside NoTree g = tt
 
 -- ---- with the reference of GIOP
 
-pub to_object : (graph : List Node) (members : List ℕ) → is_reference graph members ≡ true → (values : Trees) (depth : ℕ)
+pub to_object : (graph : List Node) (members : List ℕ) → is_reference graph members ≡ true
+    → (values : Trees) (depth : ℕ)
     → FitAll graph members values depth → FitsObject (Items values) depth
 to_object graph members p values depth f =
-    same_reference graph giop_nodes depth depth members (9 ∷ 12 ∷ []) p refl values (reference_deep graph depth members p values f) f
+    same_reference graph giop_nodes depth depth members (9 ∷ 12 ∷ []) p refl values
+    (reference_deep graph depth members p values f) f
 
-pub from_object : (graph : List Node) (members : List ℕ) → is_reference graph members ≡ true → (values : Trees) (depth : ℕ)
+pub from_object : (graph : List Node) (members : List ℕ) → is_reference graph members ≡ true
+    → (values : Trees) (depth : ℕ)
     → FitsObject (Items values) depth → FitAll graph members values depth
 from_object graph members p values depth f =
     same_reference giop_nodes graph depth depth (9 ∷ 12 ∷ []) members refl p values
     (reference_deep giop_nodes depth (9 ∷ 12 ∷ []) refl values f) f
 
 -- at another depth
-pub object_deeper : (values : Trees) (depth other : ℕ) → AreDeep giop_nodes giop_nodes values other → FitsObject (Items values) depth
+pub object_deeper : (values : Trees) (depth other : ℕ) → AreDeep giop_nodes giop_nodes values other
+    → FitsObject (Items values) depth
     → FitsObject (Items values) other
 object_deeper values depth other deep f =
     same_reference giop_nodes giop_nodes depth other (9 ∷ 12 ∷ []) (9 ∷ 12 ∷ []) refl refl values deep f
 
-pub object_deep : (values : Trees) (depth : ℕ) → FitsObject (Items values) depth → AreDeep giop_nodes giop_nodes values depth
+pub object_deep : (values : Trees) (depth : ℕ) → FitsObject (Items values) depth
+    → AreDeep giop_nodes giop_nodes values depth
 object_deep values depth f = reference_deep giop_nodes depth (9 ∷ 12 ∷ []) refl values f
 
 -- room for profiles is depth for their trees

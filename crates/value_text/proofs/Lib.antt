@@ -16,7 +16,7 @@ pub mod Passed
 pub mod Strings
 pub mod Numbers
 pub mod Said
-pub mod Parts
+pub mod OctetParts
 pub mod Alike
 pub mod Encoded
 pub mod Spelled

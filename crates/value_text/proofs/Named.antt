@@ -15,4 +15,5 @@ in_graph model rules node named =
 pub in_lent : (model lent : Parts) (graph : List Node) (node : ℕ) → lent ≡ model → graph ≡ model.graph → IsModel lent
     → IsNamed model.names node → node < length graph
 in_lent model lent graph node model_is graph_is rules named =
-    subst (λ (nodes : List Node). node < length nodes) (sym graph_is) (in_graph model (subst IsModel model_is rules) node named)
+    subst (λ (nodes : List Node). node < length nodes) (sym graph_is)
+    (in_graph model (subst IsModel model_is rules) node named)

@@ -15,7 +15,8 @@ past_one : (t : List ℕ) (c : ℕ) → c < 127 → (head t == c) ≡ true → A
 past_one [] c small e low = tt
 past_one (x ∷ xs) c small e low = let is = eqb-true x c e in (omega arith, low)
 
-digit_first : (x : ℕ) (xs : List ℕ) (b : Bool) → is_ascii_digit x ≡ b → (AreLow (drop (prefix_len is_ascii_digit xs) xs) → AreLow xs)
+digit_first : (x : ℕ) (xs : List ℕ) (b : Bool) → is_ascii_digit x ≡ b
+    → (AreLow (drop (prefix_len is_ascii_digit xs) xs) → AreLow xs)
     → AreLow (drop (cond b (1 + prefix_len is_ascii_digit xs) 0) (x ∷ xs)) → AreLow (x ∷ xs)
 digit_first x xs false e past low = low
 digit_first x xs true e past low =
@@ -51,19 +52,22 @@ minus : (t : List ℕ) → AreLow (after_minus t) → AreLow t
 minus t = optional t (head t == 45) (past_one t 45 (omega arith))
 
 sign : (t : List ℕ) → AreLow (after_sign t) → AreLow t
-sign t = optional t ((head t == 45) || (head t == 43)) (λ e. elim (or_cases _ _ e) [ inl m ↦ past_one t 45 (omega arith) m | inr p ↦ past_one t 43 (omega arith) p ])
+sign t = optional t ((head t == 45) || (head t == 43))
+    (λ e. elim (or_cases _ _ e) [ inl m ↦ past_one t 45 (omega arith) m | inr p ↦ past_one t 43 (omega arith) p ])
 
 whole : Takes after_whole
 whole t rest = at (head t == 48) refl
   where
-    at : (b : Bool) → (head t == 48) ≡ b → cond b (Some (drop 1 t)) (after_digits t) ≡ Some rest → AreLow rest → AreLow t
+    at : (b : Bool) → (head t == 48) ≡ b → cond b (Some (drop 1 t)) (after_digits t) ≡ Some rest → AreLow rest
+        → AreLow t
     at true e is low = past_one t 48 (omega arith) e (same _ rest is low)
     at false e is low = digits t rest is low
 
 fraction : Takes after_fraction
 fraction t rest = at (head t == 46) refl
   where
-    at : (b : Bool) → (head t == 46) ≡ b → cond b (after_digits (drop 1 t)) (Some t) ≡ Some rest → AreLow rest → AreLow t
+    at : (b : Bool) → (head t == 46) ≡ b → cond b (after_digits (drop 1 t)) (Some t) ≡ Some rest → AreLow rest
+        → AreLow t
     at true e is low = past_one t 46 (omega arith) e (digits _ rest is low)
     at false e is low = same t rest is low
 
@@ -73,11 +77,13 @@ exponent t rest = at ((head t == 101) || (head t == 69)) refl
     past : ((head t == 101) || (head t == 69)) ≡ true → AreLow (drop 1 t) → AreLow t
     past e = elim (or_cases _ _ e) [ inl m ↦ past_one t 101 (omega arith) m | inr p ↦ past_one t 69 (omega arith) p ]
 
-    at : (b : Bool) → ((head t == 101) || (head t == 69)) ≡ b → cond b (after_digits (after_sign (drop 1 t))) (Some t) ≡ Some rest → AreLow rest → AreLow t
+    at : (b : Bool) → ((head t == 101) || (head t == 69)) ≡ b
+        → cond b (after_digits (after_sign (drop 1 t))) (Some t) ≡ Some rest → AreLow rest → AreLow t
     at true e is low = past e (sign (drop 1 t) (digits _ rest is low))
     at false e is low = same t rest is low
 
-then : (f : List ℕ → Option (List ℕ)) → Takes f → (o : Option (List ℕ)) (t rest : List ℕ) → ((u : List ℕ) → o ≡ Some u → AreLow u → AreLow t)
+then : (f : List ℕ → Option (List ℕ)) → Takes f → (o : Option (List ℕ)) (t rest : List ℕ)
+    → ((u : List ℕ) → o ≡ Some u → AreLow u → AreLow t)
     → option_and_then f o ≡ Some rest → AreLow rest → AreLow t
 then f takes None t rest before e low = absurd (cc)
 then f takes (Some u) t rest before e low = before u refl (takes u rest e low)
@@ -86,5 +92,6 @@ pub low_number : (s : List ℕ) → IsNumber s → AreLow s
 unfolding after_number
 low_number s h =
     then after_exponent exponent (option_and_then after_fraction (after_whole (after_minus s))) s []
-    (λ u. then after_fraction fraction (after_whole (after_minus s)) s u (λ v is low. minus s (whole (after_minus s) v is low)))
+    (λ u. then after_fraction fraction (after_whole (after_minus s)) s u
+    (λ v is low. minus s (whole (after_minus s) v is low)))
     h tt

@@ -41,10 +41,12 @@ is_false true h = absurd (h refl)
 is_false false h = refl
 
 uncalled : (label : List ℕ) (pair : List ℕ × List Token) → (pair.0 ≡ label → ⊥) → is_called label pair ≡ 0
-uncalled label pair differs = ap (λ b. if b then 1 else 0) (is_false (bytes_eq pair.0 label) (λ e. differs ((bytes_eq-Decides pair.0 label).0 e)))
+uncalled label pair differs =
+    ap (λ b. if b then 1 else 0) (is_false (bytes_eq pair.0 label) (λ e. differs ((bytes_eq-Decides pair.0 label).0 e)))
 
 -- not among names that differ from it
-not_again : (label : List ℕ) (labels : List (List ℕ)) (texts : List (List Token)) → AllByRecursion (λ name. same_but_for_case label name ≡ false) labels
+not_again : (label : List ℕ) (labels : List (List ℕ)) (texts : List (List Token))
+    → AllByRecursion (λ name. same_but_for_case label name ≡ false) labels
     → sum_by (is_called label) (zip labels texts) ≡ 0
 not_again label [] texts apart = refl
 not_again label (name ∷ labels) [] apart = refl
@@ -52,23 +54,29 @@ not_again label (name ∷ labels) (text ∷ texts) apart =
     let f = is_called label in
     let pair : List ℕ × List Token = (name, text) in
     let split = sum_by-cons f pair (zip labels texts) in
-    let other = uncalled label pair (λ e. false≢true (sym apart.0 ∙ ap (same_but_for_case label) e ∙ same_itself label)) in
+    let other = uncalled label pair (λ e. false≢true (sym apart.0 ∙ ap (same_but_for_case label) e ∙ same_itself label))
+    in
     let rest = not_again label labels texts apart.1 in
     omega (arith, split, other, rest)
 
-at_most_once : (label : List ℕ) (labels : List (List ℕ)) (texts : List (List Token)) → AreApart labels → sum_by (is_called label) (zip labels texts) ≤ 1
+at_most_once : (label : List ℕ) (labels : List (List ℕ)) (texts : List (List Token)) → AreApart labels
+    → sum_by (is_called label) (zip labels texts) ≤ 1
 at_most_once label [] texts apart = omega arith
 at_most_once label (name ∷ labels) [] apart = omega arith
 at_most_once label (name ∷ labels) (text ∷ texts) apart =
-    by_name (bytes_eq name label) refl (at_most_once label labels texts (IsDistinct-tail same_but_for_case name labels apart))
+    by_name (bytes_eq name label) refl
+    (at_most_once label labels texts (IsDistinct-tail same_but_for_case name labels apart))
   where
-    by_name : (b : Bool) → bytes_eq name label ≡ b → sum_by (is_called label) (zip labels texts) ≤ 1 → sum_by (is_called label) (zip (name ∷ labels) (text ∷ texts)) ≤ 1
+    by_name : (b : Bool) → bytes_eq name label ≡ b → sum_by (is_called label) (zip labels texts) ≤ 1
+        → sum_by (is_called label) (zip (name ∷ labels) (text ∷ texts)) ≤ 1
     by_name true e more =
         let pair : List ℕ × List Token = (name, text) in
         let split = sum_by-cons (is_called label) pair (zip labels texts) in
         let same = (bytes_eq-Decides name label).0 e in
         let one = called label pair same in
-        let rest = not_again label labels texts (subst (λ l. AllByRecursion (λ other. same_but_for_case l other ≡ false) labels) same (IsDistinct-head same_but_for_case name labels apart)) in
+        let rest = not_again label labels texts
+        (subst (λ l. AllByRecursion (λ other. same_but_for_case l other ≡ false) labels) same
+        (IsDistinct-head same_but_for_case name labels apart)) in
         omega (arith, split, one, rest)
     by_name false e more =
         let pair : List ℕ × List Token = (name, text) in
@@ -78,7 +86,8 @@ at_most_once label (name ∷ labels) (text ∷ texts) apart =
 
 -- ---- what is left of an object
 
-no_more : (rest : List (List ℕ × List Token)) (new behind : List Token) → paired rest ++ end_object ∷ new ≡ end_object ∷ behind → rest ≡ []
+no_more : (rest : List (List ℕ × List Token)) (new behind : List Token)
+    → paired rest ++ end_object ∷ new ≡ end_object ∷ behind → rest ≡ []
 no_more [] new behind e = refl
 no_more (pair ∷ rest) new behind e = absurd (subst Is_key (ap first_of_tokens e) tt)
 
@@ -89,16 +98,19 @@ pub record First (label : List ℕ) (rest : List (List ℕ × List Token)) (firs
   pub is : rest ≡ (label, text) ∷ more
   pub cut : first ≡ text ++ (paired more ++ end_object ∷ new)
 
-first_pair : (label : List ℕ) (rest : List (List ℕ × List Token)) (first new : List Token) → paired rest ++ end_object ∷ new ≡ key label ∷ first → First label rest first new
+first_pair : (label : List ℕ) (rest : List (List ℕ × List Token)) (first new : List Token)
+    → paired rest ++ end_object ∷ new ≡ key label ∷ first → First label rest first new
 first_pair label [] first new e = absurd (subst Is_key (sym (ap first_of_tokens e)) tt)
 first_pair label (pair ∷ rest) first new e = record {
   text = pair.1;
   more = rest;
-  is = ap (λ (name : List ℕ). let p : List ℕ × List Token = (name, pair.1) in p ∷ rest) (ap text_in (ap first_of_tokens e));
+  is = ap (λ (name : List ℕ). let p : List ℕ × List Token = (name, pair.1) in p ∷ rest)
+      (ap text_in (ap first_of_tokens e));
   cut = sym (ap (drop 1) e) ∙ append_assoc pair.1 (paired rest) (end_object ∷ new);
 }
 
-neither : (rest : List (List ℕ × List Token)) (mid new : List Token) → mid ≡ paired rest ++ end_object ∷ new → ((more : List Token) → mid ≡ end_object ∷ more → ⊥)
+neither : (rest : List (List ℕ × List Token)) (mid new : List Token) → mid ≡ paired rest ++ end_object ∷ new
+    → ((more : List Token) → mid ≡ end_object ∷ more → ⊥)
     → ((name : List ℕ) (more : List Token) → mid ≡ key name ∷ more → ⊥) → ⊥
 neither [] mid new e ends goes = ends new e
 neither (pair ∷ rest) mid new e ends goes = goes pair.0 _ e
@@ -113,8 +125,10 @@ module _ {X T : Type 0} (Says : ℕ → X → T → Type 0) where
   given_short (label ∷ labels) (Some text ∷ texts) = let rest = given_short labels texts in omega (arith, rest)
 
   -- where as many texts are there as there are names, each value is
-  pub all_full : (labels : List (List ℕ)) (numbers : List ℕ) (slots : List (Option X)) (texts : List (Option T)) → AreSlots Says numbers slots texts
-      → length labels ≡ length numbers → length (given labels texts) ≡ length labels → (values : List X) × (slots ≡ map Some values)
+  pub all_full : (labels : List (List ℕ)) (numbers : List ℕ) (slots : List (Option X)) (texts : List (Option T))
+      → AreSlots Says numbers slots texts
+      → length labels ≡ length numbers → length (given labels texts) ≡ length labels
+      → (values : List X) × (slots ≡ map Some values)
   all_full [] [] [] [] h long full = ([], refl)
   all_full (label ∷ labels) (number ∷ numbers) (Some value ∷ slots) (Some text ∷ texts) h long full =
       let rest = all_full labels numbers slots texts h.1 (omega (arith, long)) (omega (arith, full)) in
@@ -128,8 +142,10 @@ module _ {X T : Type 0} (Says : ℕ → X → T → Type 0) where
   all_full labels numbers slots texts h long full = absurd h
 
 -- a place with a name is free, or the name is among those that are there
-free_or_called : {X : Type 0} (Says : ℕ → X → List Token → Type 0) (labels : List (List ℕ)) (numbers : List ℕ) (slots : List (Option X)) (texts : List (Option (List Token)))
-    (place : ℕ) (label : List ℕ) (number : ℕ) → AreSlots Says numbers slots texts → slice_get labels place ≡ Some label → slice_get numbers place ≡ Some number
+free_or_called : {X : Type 0} (Says : ℕ → X → List Token → Type 0) (labels : List (List ℕ)) (numbers : List ℕ)
+    (slots : List (Option X)) (texts : List (Option (List Token)))
+    (place : ℕ) (label : List ℕ) (number : ℕ) → AreSlots Says numbers slots texts → slice_get labels place ≡ Some label
+    → slice_get numbers place ≡ Some number
     → (slice_get slots place ≡ Some None) ⊎ (1 ≤ sum_by (is_called label) (given labels texts))
 free_or_called Says [] numbers slots texts place label number h e at = absurd (not_none None label refl e)
 free_or_called Says (first ∷ labels) [] slots texts place label number h e at = absurd (not_none None number refl at)
@@ -141,7 +157,8 @@ free_or_called Says (first ∷ labels) (n ∷ numbers) (Some value ∷ slots) (S
     inr (omega (arith, split, one))
 free_or_called Says (first ∷ labels) (n ∷ numbers) (None ∷ slots) (None ∷ texts) (suc place) label number h e at =
     free_or_called Says labels numbers slots texts place label number h.1 e at
-free_or_called Says (first ∷ labels) (n ∷ numbers) (Some value ∷ slots) (Some text ∷ texts) (suc place) label number h e at =
+free_or_called Says (first ∷ labels) (n ∷ numbers) (Some value ∷ slots) (Some text ∷ texts) (suc place) label number h e
+    at =
     elim (free_or_called Says labels numbers slots texts place label number h.1 e at) [
       | inl free ↦ inl free
       | inr there ↦ inr (
@@ -149,13 +166,17 @@ free_or_called Says (first ∷ labels) (n ∷ numbers) (Some value ∷ slots) (S
           let split = sum_by-cons (is_called label) pair (given labels texts) in
           omega (arith, split, there))
     ]
-free_or_called Says (first ∷ labels) (n ∷ numbers) (None ∷ slots) (Some text ∷ texts) place label number h e at = absurd h.0
-free_or_called Says (first ∷ labels) (n ∷ numbers) (Some value ∷ slots) (None ∷ texts) place label number h e at = absurd h.0
+free_or_called Says (first ∷ labels) (n ∷ numbers) (None ∷ slots) (Some text ∷ texts) place label number h e at =
+    absurd h.0
+free_or_called Says (first ∷ labels) (n ∷ numbers) (Some value ∷ slots) (None ∷ texts) place label number h e at =
+    absurd h.0
 free_or_called Says (first ∷ labels) (n ∷ numbers) slots texts place label number h e at = absurd h
 
 -- a name that comes isn't there yet
-not_called_yet : (labels : List (List ℕ)) (own : List (List Token)) (texts : List (Option (List Token))) (pairs more : List (List ℕ × List Token)) (label : List ℕ) (text : List Token)
-    → AreApart labels → IsPermutation (given labels texts) pairs → IsPermutation (zip labels own) (pairs ++ (label, text) ∷ more)
+not_called_yet : (labels : List (List ℕ)) (own : List (List Token)) (texts : List (Option (List Token)))
+    (pairs more : List (List ℕ × List Token)) (label : List ℕ) (text : List Token)
+    → AreApart labels → IsPermutation (given labels texts) pairs
+    → IsPermutation (zip labels own) (pairs ++ (label, text) ∷ more)
     → 1 ≤ sum_by (is_called label) (given labels texts) → ⊥
 not_called_yet labels own texts pairs more label text apart order all there =
     let f = is_called label in
@@ -171,48 +192,59 @@ not_called_yet labels own texts pairs more label text apart order all there =
 module _ (names : List (List (List ℕ))) (graph : List Node) (depth : ℕ) where
   -- a text says a value of the node of a number
   abbrev pub Saying : ℕ → List Token → Type 0
-  Saying number text = (value : Tree) × Fits graph (node_at graph number) value depth × Says names graph (names_at names number) (node_at graph number) value text
+  Saying number text = (value : Tree) × Fits graph (node_at graph number) value depth
+      × Says names graph (names_at names number) (node_at graph number) value text
 
   -- a name and a text that says a value of the part of this name
   abbrev pub IsMember : List (List ℕ) → List ℕ → List ℕ × List Token → Type 0
-  IsMember (label ∷ labels) (number ∷ numbers) pair = ((label ≡ pair.0) × Saying number pair.1) ⊎ IsMember labels numbers pair
+  IsMember (label ∷ labels) (number ∷ numbers) pair = ((label ≡ pair.0) × Saying number pair.1)
+      ⊎ IsMember labels numbers pair
   IsMember labels numbers pair = ⊥
 
-  given_members : (labels : List (List ℕ)) (numbers : List ℕ) (slots : List (Option Value)) (texts : List (Option (List Token)))
-      → AreSlots (SaysMember names graph depth) numbers slots texts → AllByRecursion (IsMember labels numbers) (given labels texts)
+  given_members : (labels : List (List ℕ)) (numbers : List ℕ) (slots : List (Option Value))
+      (texts : List (Option (List Token)))
+      → AreSlots (SaysMember names graph depth) numbers slots texts
+      → AllByRecursion (IsMember labels numbers) (given labels texts)
   given_members [] numbers slots texts h = tt
   given_members (label ∷ labels) [] [] [] h = tt
   given_members (label ∷ labels) (number ∷ numbers) (None ∷ slots) (None ∷ texts) h =
-      all_weaken (IsMember labels numbers) (IsMember (label ∷ labels) (number ∷ numbers)) (given labels texts) (λ pair m. inr m) (given_members labels numbers slots texts h.1)
+      all_weaken (IsMember labels numbers) (IsMember (label ∷ labels) (number ∷ numbers)) (given labels texts)
+      (λ pair m. inr m) (given_members labels numbers slots texts h.1)
   given_members (label ∷ labels) (number ∷ numbers) (Some value ∷ slots) (Some text ∷ texts) h = (
     inl (refl, (tree_of value, h.0.0, h.0.1)),
-    all_weaken (IsMember labels numbers) (IsMember (label ∷ labels) (number ∷ numbers)) (given labels texts) (λ pair m. inr m) (given_members labels numbers slots texts h.1),
+    all_weaken (IsMember labels numbers) (IsMember (label ∷ labels) (number ∷ numbers)) (given labels texts)
+        (λ pair m. inr m) (given_members labels numbers slots texts h.1),
   )
   given_members (label ∷ labels) (number ∷ numbers) (None ∷ slots) (Some text ∷ texts) h = absurd h.0
   given_members (label ∷ labels) (number ∷ numbers) (Some value ∷ slots) (None ∷ texts) h = absurd h.0
   given_members (label ∷ labels) numbers slots texts h = absurd h
 
-  zip_members : (labels : List (List ℕ)) (numbers : List ℕ) (ws : Trees) (texts : List (List Token)) → FitAll graph numbers ws depth → SayAll names graph numbers ws texts
+  zip_members : (labels : List (List ℕ)) (numbers : List ℕ) (ws : Trees) (texts : List (List Token))
+      → FitAll graph numbers ws depth → SayAll names graph numbers ws texts
       → AllByRecursion (IsMember labels numbers) (zip labels texts)
   zip_members [] numbers ws texts f h = tt
   zip_members (label ∷ labels) [] NoTree [] f h = tt
   zip_members (label ∷ labels) (number ∷ numbers) (AndTree w ws) (text ∷ texts) f h = (
     inl (refl, (w, f.0, h.0)),
-    all_weaken (IsMember labels numbers) (IsMember (label ∷ labels) (number ∷ numbers)) (zip labels texts) (λ pair m. inr m) (zip_members labels numbers ws texts f.1 h.1),
+    all_weaken (IsMember labels numbers) (IsMember (label ∷ labels) (number ∷ numbers)) (zip labels texts)
+        (λ pair m. inr m) (zip_members labels numbers ws texts f.1 h.1),
   )
   zip_members (label ∷ labels) numbers ws texts f h = absurd h
 
   -- a name that differs from all is no member's
-  other_name : (first : List ℕ) (labels : List (List ℕ)) (numbers : List ℕ) (pair : List ℕ × List Token) → AllByRecursion (λ name. same_but_for_case first name ≡ false) labels
+  other_name : (first : List ℕ) (labels : List (List ℕ)) (numbers : List ℕ) (pair : List ℕ × List Token)
+      → AllByRecursion (λ name. same_but_for_case first name ≡ false) labels
       → IsMember labels numbers pair → first ≡ pair.0 → ⊥
   other_name first [] numbers pair apart m e = absurd m
   other_name first (label ∷ labels) [] pair apart m e = absurd m
   other_name first (label ∷ labels) (number ∷ numbers) pair apart (inl m) e =
       false≢true (sym apart.0 ∙ ap (same_but_for_case first) (m.0 ∙ sym e) ∙ same_itself first)
-  other_name first (label ∷ labels) (number ∷ numbers) pair apart (inr m) e = other_name first labels numbers pair apart.1 m e
+  other_name first (label ∷ labels) (number ∷ numbers) pair apart (inr m) e =
+      other_name first labels numbers pair apart.1 m e
 
   -- two texts of one name say values of one part
-  same_member : (labels : List (List ℕ)) (numbers : List ℕ) (p q : List ℕ × List Token) → AreApart labels → IsMember labels numbers p → IsMember labels numbers q → p.0 ≡ q.0
+  same_member : (labels : List (List ℕ)) (numbers : List ℕ) (p q : List ℕ × List Token) → AreApart labels
+      → IsMember labels numbers p → IsMember labels numbers q → p.0 ≡ q.0
       → (number : ℕ) × Saying number p.1 × Saying number q.1
   same_member [] numbers p q apart m k e = absurd m
   same_member (label ∷ labels) [] p q apart m k e = absurd m
@@ -225,48 +257,59 @@ module _ (names : List (List (List ℕ))) (graph : List Node) (depth : ℕ) wher
       same_member labels numbers p q (IsDistinct-tail same_but_for_case label labels apart) m k e
 
   -- the part at the place of a name
-  member_at : (labels : List (List ℕ)) (numbers : List ℕ) (pair : List ℕ × List Token) (place : ℕ) → AreApart labels → IsMember labels numbers pair
-      → slice_get labels place ≡ Some pair.0 → (number : ℕ) × (slice_get numbers place ≡ Some number) × Saying number pair.1
+  member_at : (labels : List (List ℕ)) (numbers : List ℕ) (pair : List ℕ × List Token) (place : ℕ) → AreApart labels
+      → IsMember labels numbers pair
+      → slice_get labels place ≡ Some pair.0 → (number : ℕ) × (slice_get numbers place ≡ Some number)
+      × Saying number pair.1
   member_at [] numbers pair place apart m e = absurd m
   member_at (label ∷ labels) [] pair place apart m e = absurd m
   member_at (label ∷ labels) (number ∷ numbers) pair zero apart (inl m) e = (number, refl, m.1)
   member_at (label ∷ labels) (number ∷ numbers) pair zero apart (inr m) e =
-      absurd (other_name label labels numbers pair (IsDistinct-head same_but_for_case label labels apart) m (same_Some label pair.0 e))
+      absurd (other_name label labels numbers pair (IsDistinct-head same_but_for_case label labels apart) m
+      (same_Some label pair.0 e))
   member_at (label ∷ labels) (number ∷ numbers) pair (suc place) apart (inl m) e =
-      absurd (two_places label labels place pair.0 (IsDistinct-head same_but_for_case label labels apart) (ap Some m.0) e)
+      absurd (two_places label labels place pair.0 (IsDistinct-head same_but_for_case label labels apart) (ap Some m.0)
+      e)
   member_at (label ∷ labels) (number ∷ numbers) pair (suc place) apart (inr m) e =
       member_at labels numbers pair place (IsDistinct-tail same_but_for_case label labels apart) m e
 
   -- a member's name is one of the names
-  name_there : (labels : List (List ℕ)) (numbers : List ℕ) (pair : List ℕ × List Token) → IsMember labels numbers pair → (place : ℕ) × (slice_get labels place ≡ Some pair.0)
+  name_there : (labels : List (List ℕ)) (numbers : List ℕ) (pair : List ℕ × List Token) → IsMember labels numbers pair
+      → (place : ℕ) × (slice_get labels place ≡ Some pair.0)
   name_there [] numbers pair m = absurd m
   name_there (label ∷ labels) [] pair m = absurd m
   name_there (label ∷ labels) (number ∷ numbers) pair (inl m) = (0, ap Some m.0)
-  name_there (label ∷ labels) (number ∷ numbers) pair (inr m) = let more = name_there labels numbers pair m in (suc more.0, more.1)
+  name_there (label ∷ labels) (number ∷ numbers) pair (inr m) = let more = name_there labels numbers pair m in
+      (suc more.0, more.1)
 
   module _ (sound : AreSound names graph) (labels : List (List ℕ)) (numbers : List ℕ) (apart : AreApart labels) where
     one : (v : Tree) → IsOne names graph v
     one = one_value names graph (all_low graph sound.rules) (all_named names graph sound.apart)
 
     -- the pairs that were read are those with which an object of these tokens begins
-    walk : (ps qs : List (List ℕ × List Token)) (r s : List Token) → AllByRecursion (IsMember labels numbers) ps → AllByRecursion (IsMember labels numbers) qs
-        → paired ps ++ r ≡ paired qs ++ end_object ∷ s → (rest : List (List ℕ × List Token)) × (qs ≡ ps ++ rest) × (r ≡ paired rest ++ end_object ∷ s)
+    walk : (ps qs : List (List ℕ × List Token)) (r s : List Token) → AllByRecursion (IsMember labels numbers) ps
+        → AllByRecursion (IsMember labels numbers) qs
+        → paired ps ++ r ≡ paired qs ++ end_object ∷ s → (rest : List (List ℕ × List Token)) × (qs ≡ ps ++ rest)
+        × (r ≡ paired rest ++ end_object ∷ s)
     walk [] qs r s h k e = (qs, refl, e)
     walk (p ∷ ps) [] r s h k e = absurd (subst Is_key (ap first_of_tokens e) tt)
     walk (p ∷ ps) (q ∷ qs) r s h k e =
         let more = paired ps ++ r in
         let others = paired qs ++ end_object ∷ s in
         let same_name : p.0 ≡ q.0 = ap text_in (ap first_of_tokens e) in
-        let behind : p.1 ++ more ≡ q.1 ++ others = sym (append_assoc p.1 (paired ps) r) ∙ ap (drop 1) e ∙ append_assoc q.1 (paired qs) (end_object ∷ s) in
+        let behind : p.1 ++ more ≡ q.1 ++ others = sym (append_assoc p.1 (paired ps) r) ∙ ap (drop 1) e
+        ∙ append_assoc q.1 (paired qs) (end_object ∷ s) in
         let both = same_member labels numbers p q apart h.0 k.0 same_name in
         let number = both.0 in
         let mine = both.1 in
         let its = both.2 in
-        let left = (one mine.0 (names_at names number) (node_at graph number) depth depth its.0 p.1 q.1 more others (all_low graph sound.rules number) (all_named names graph sound.apart number)
+        let left = (one mine.0 (names_at names number) (node_at graph number) depth depth its.0 p.1 q.1 more others
+        (all_low graph sound.rules number) (all_named names graph sound.apart number)
         mine.1 its.1 mine.2 its.2 behind).1 in
         let text : p.1 ≡ q.1 = append_cancel_right p.1 q.1 more (behind ∙ ap (λ l. q.1 ++ l) (sym left)) in
         let rest = walk ps qs r s h.1 k.1 left in
-        let pair : q ≡ p = sym (ap₂ (λ (name : List ℕ) (text : List Token). let pair : List ℕ × List Token = (name, text) in pair) same_name text) in
+        let pair : q ≡ p = sym (ap₂ (λ (name : List ℕ) (text : List Token). let pair : List ℕ × List Token =
+        (name, text) in pair) same_name text) in
         (rest.0, ap₂ (λ x l. x ∷ l) pair rest.1, rest.2)
 
     -- what is left of an object that begins with what was read
@@ -276,16 +319,20 @@ module _ (names : List (List (List ℕ))) (graph : List Node) (depth : ℕ) wher
       members : AllByRecursion (IsMember labels numbers) rest
       is : mid ≡ paired rest ++ end_object ∷ new
 
-    behind_all : (ps rest : List (List ℕ × List Token)) → AllByRecursion (IsMember labels numbers) (ps ++ rest) → AllByRecursion (IsMember labels numbers) rest
+    behind_all : (ps rest : List (List ℕ × List Token)) → AllByRecursion (IsMember labels numbers) (ps ++ rest)
+        → AllByRecursion (IsMember labels numbers) rest
     behind_all [] rest h = h
     behind_all (p ∷ ps) rest h = behind_all ps rest h.1
 
-    module _ (old : List Token) (slots : List (Option Value)) (mid : List Token) (ws : Trees) (new : List Token) (a : ReadsSlots names graph labels numbers depth old slots mid)
+    module _ (old : List Token) (slots : List (Option Value)) (mid : List Token) (ws : Trees) (new : List Token)
+        (a : ReadsSlots names graph labels numbers depth old slots mid)
         (b : ReadsObject names graph labels numbers depth old ws new) where
       left : Left b.texts a.pairs mid new
       left =
-          let mine = shuffled (IsMember labels numbers) (given labels a.texts) a.pairs a.in_some_order (given_members labels numbers slots a.texts a.are_slots) in
-          let its = shuffled (IsMember labels numbers) (zip labels b.texts) b.pairs b.in_some_order (zip_members labels numbers ws b.texts b.fit b.say) in
+          let mine = shuffled (IsMember labels numbers) (given labels a.texts) a.pairs a.in_some_order
+          (given_members labels numbers slots a.texts a.are_slots) in
+          let its = shuffled (IsMember labels numbers) (zip labels b.texts) b.pairs b.in_some_order
+          (zip_members labels numbers ws b.texts b.fit b.say) in
           let found = walk a.pairs b.pairs mid new mine its (sym a.cut ∙ b.cut) in
           record {
             rest = found.0;
@@ -295,7 +342,8 @@ module _ (names : List (List (List ℕ))) (graph : List Node) (depth : ℕ) wher
           }
 
       -- neither a name nor the end comes
-      pub key_refused : ((more : List Token) → mid ≡ end_object ∷ more → ⊥) → ((name : List ℕ) (more : List Token) → mid ≡ key name ∷ more → ⊥) → ⊥
+      pub key_refused : ((more : List Token) → mid ≡ end_object ∷ more → ⊥)
+          → ((name : List ℕ) (more : List Token) → mid ≡ key name ∷ more → ⊥) → ⊥
       key_refused ends goes = neither left.rest mid new left.is ends goes
 
       -- a member comes
@@ -315,60 +363,84 @@ module _ (names : List (List (List ℕ))) (graph : List Node) (depth : ℕ) wher
           part = member_at labels numbers (label, next.text) place apart member at
 
           free : slice_get slots place ≡ Some None
-          free = elim (free_or_called (SaysMember names graph depth) labels numbers slots a.texts place label part.0 a.are_slots at part.1) [
-            | inl h ↦ h
-            | inr there ↦ absurd (not_called_yet labels b.texts a.texts a.pairs next.more label next.text apart a.in_some_order
-                (subst (λ l. IsPermutation (zip labels b.texts) (a.pairs ++ l)) next.is left.order) there)
-          ]
+          free = elim (free_or_called (SaysMember names graph depth) labels numbers slots a.texts place label part.0
+              a.are_slots at part.1) [
+                | inl h ↦ h
+                | inr there ↦ absurd (not_called_yet labels b.texts a.texts a.pairs next.more label next.text apart
+                    a.in_some_order
+                    (subst (λ l. IsPermutation (zip labels b.texts) (a.pairs ++ l)) next.is left.order) there)
+              ]
 
           -- its place isn't free
-          pub member_refused : ((number : ℕ) → slice_get numbers place ≡ Some number → slice_get slots place ≡ Some None → ⊥) → ⊥
+          pub member_refused : ((number : ℕ) → slice_get numbers place ≡ Some number → slice_get slots place ≡ Some None
+              → ⊥) → ⊥
           member_refused none = none part.0 part.1 free
 
           -- its value is refused
-          pub value_refused : (number : ℕ) (token : Token) (behind : List Token) → slice_get numbers place ≡ Some number → Next first token behind
+          pub value_refused : (number : ℕ) (token : Token) (behind : List Token) → slice_get numbers place ≡ Some number
+              → Next first token behind
               → ((w : Tree) (rest : List Token) → Reads names graph number depth token behind w rest → ⊥) → ⊥
           value_refused number token behind here comes none =
               let said = subst (λ n. Saying n next.text) (same_Some part.0 number (sym part.1 ∙ here)) part.2 in
-              none said.0 (paired next.more ++ end_object ∷ new) (read_from names graph sound number depth first token behind said.0 next.text (paired next.more ++ end_object ∷ new) comes said.1 said.2 next.cut)
+              none said.0 (paired next.more ++ end_object ∷ new)
+              (read_from names graph sound number depth first token behind said.0 next.text
+              (paired next.more ++ end_object ∷ new) comes said.1 said.2 next.cut)
 
       -- the end comes, and a member is missing
-      pub slots_refused : (behind : List Token) → length labels ≡ length numbers → mid ≡ end_object ∷ behind → ((values : List Value) → slots ≡ map Some values → ⊥) → ⊥
+      pub slots_refused : (behind : List Token) → length labels ≡ length numbers → mid ≡ end_object ∷ behind
+          → ((values : List Value) → slots ≡ map Some values → ⊥) → ⊥
       slots_refused behind named ends none =
-          let all = subst (λ l. IsPermutation (zip labels b.texts) (a.pairs ++ l)) (no_more left.rest new behind (sym left.is ∙ ends)) left.order in
-          let whole = length_permutation (zip labels b.texts) (a.pairs ++ []) all ∙ zipped labels b.texts (named ∙ sym (as_many names graph numbers ws b.texts b.say)) in
+          let all = subst (λ l. IsPermutation (zip labels b.texts) (a.pairs ++ l))
+          (no_more left.rest new behind (sym left.is ∙ ends)) left.order in
+          let whole = length_permutation (zip labels b.texts) (a.pairs ++ []) all
+          ∙ zipped labels b.texts (named ∙ sym (as_many names graph numbers ws b.texts b.say)) in
           let mine = length_permutation (given labels a.texts) a.pairs a.in_some_order in
           let full = sym mine ∙ sym (ap length (append-nil a.pairs)) ∙ whole in
           let values = all_full (SaysMember names graph depth) labels numbers slots a.texts a.are_slots named full in
           none values.0 values.1
         where
-          zipped : (labels : List (List ℕ)) (texts : List (List Token)) → length labels ≡ length texts → length (zip labels texts) ≡ length labels
+          zipped : (labels : List (List ℕ)) (texts : List (List Token)) → length labels ≡ length texts
+              → length (zip labels texts) ≡ length labels
           zipped [] texts e = refl
           zipped (label ∷ labels) [] e = absurd (omega (arith, e))
           zipped (label ∷ labels) (text ∷ texts) e = ap suc (zipped labels texts (omega (arith, e)))
 
 -- ---- what the loop over members refuses
 
-module _ (names : List (List (List ℕ))) (graph : List Node) (depth : ℕ) (old : List Token) (labels : List (List ℕ)) (numbers : List ℕ) (slots : List (Option Value)) (mid : List Token)
+module _ (names : List (List (List ℕ))) (graph : List Node) (depth : ℕ) (old : List Token) (labels : List (List ℕ))
+    (numbers : List ℕ) (slots : List (Option Value)) (mid : List Token)
     (a : ReadsSlots names graph labels numbers depth old slots mid) where
   abbrev NoObject : Type 0
-  NoObject = AreApart labels → length labels ≡ length numbers → ReadsNone names graph (ReadsObject names graph labels numbers depth old)
+  NoObject = AreApart labels → length labels ≡ length numbers
+      → ReadsNone names graph (ReadsObject names graph labels numbers depth old)
 
-  pub no_key : ((more : List Token) → mid ≡ end_object ∷ more → ⊥) → ((name : List ℕ) (more : List Token) → mid ≡ key name ∷ more → ⊥) → NoObject
-  no_key ends goes = λ apart named sound ws new b. key_refused names graph depth sound labels numbers apart old slots mid ws new a b ends goes
+  pub no_key : ((more : List Token) → mid ≡ end_object ∷ more → ⊥)
+      → ((name : List ℕ) (more : List Token) → mid ≡ key name ∷ more → ⊥) → NoObject
+  no_key ends goes = λ apart named sound ws new b. key_refused names graph depth sound labels numbers apart old slots
+      mid ws new a b ends goes
 
-  pub no_name : (label : List ℕ) (first : List Token) → mid ≡ key label ∷ first → ((place : ℕ) → slice_get labels place ≡ Some label → ⊥) → NoObject
-  no_name label first goes none = λ apart named sound ws new b. name_refused names graph depth sound labels numbers apart old slots mid ws new a b label first goes none
+  pub no_name : (label : List ℕ) (first : List Token) → mid ≡ key label ∷ first
+      → ((place : ℕ) → slice_get labels place ≡ Some label → ⊥) → NoObject
+  no_name label first goes none =
+      λ apart named sound ws new b. name_refused names graph depth sound labels numbers apart old slots mid ws new a b
+      label first goes none
 
-  pub no_free_member : (label : List ℕ) (first : List Token) (place : ℕ) → mid ≡ key label ∷ first → slice_get labels place ≡ Some label
+  pub no_free_member : (label : List ℕ) (first : List Token) (place : ℕ) → mid ≡ key label ∷ first
+      → slice_get labels place ≡ Some label
       → ((number : ℕ) → slice_get numbers place ≡ Some number → slice_get slots place ≡ Some None → ⊥) → NoObject
   no_free_member label first place goes at none = λ apart named sound ws new b.
-      member_refused names graph depth sound labels numbers apart old slots mid ws new a b label first goes place at none
+      member_refused names graph depth sound labels numbers apart old slots mid ws new a b label first goes place at
+      none
 
-  pub no_value : (label : List ℕ) (first : List Token) (place number : ℕ) (token : Token) (behind : List Token) → mid ≡ key label ∷ first → slice_get labels place ≡ Some label
-      → slice_get numbers place ≡ Some number → Next first token behind → ReadsNone names graph (Reads names graph number depth token behind) → NoObject
+  pub no_value : (label : List ℕ) (first : List Token) (place number : ℕ) (token : Token) (behind : List Token)
+      → mid ≡ key label ∷ first → slice_get labels place ≡ Some label
+      → slice_get numbers place ≡ Some number → Next first token behind
+      → ReadsNone names graph (Reads names graph number depth token behind) → NoObject
   no_value label first place number token behind goes at here comes none = λ apart named sound ws new b.
-      value_refused names graph depth sound labels numbers apart old slots mid ws new a b label first goes place at number token behind here comes (none sound)
+      value_refused names graph depth sound labels numbers apart old slots mid ws new a b label first goes place at
+      number token behind here comes (none sound)
 
-  pub not_all : (behind : List Token) → mid ≡ end_object ∷ behind → ((values : List Value) → slots ≡ map Some values → ⊥) → NoObject
-  not_all behind ends none = λ apart named sound ws new b. slots_refused names graph depth sound labels numbers apart old slots mid ws new a b behind named ends none
+  pub not_all : (behind : List Token) → mid ≡ end_object ∷ behind
+      → ((values : List Value) → slots ≡ map Some values → ⊥) → NoObject
+  not_all behind ends none = λ apart named sound ws new b. slots_refused names graph depth sound labels numbers apart
+      old slots mid ws new a b behind named ends none

@@ -42,7 +42,8 @@ Is_string token = ⊥
 
 -- digits are those of one number
 decimal_one : (m n : ℕ) → m < 10 ^ 64 → n < 10 ^ 64 → decimal m ≡ decimal n → m ≡ n
-decimal_one m n low also e = sym (decimal_is_IsNumeral_wide m low).1 ∙ ap (digits_value 10) e ∙ (decimal_is_IsNumeral_wide n also).1
+decimal_one m n low also e = sym (decimal_is_IsNumeral_wide m low).1 ∙ ap (digits_value 10) e
+    ∙ (decimal_is_IsNumeral_wide n also).1
 
 not_minus : (m n : ℕ) → m < 10 ^ 64 → decimal m ≡ 45 ∷ decimal (suc n) → ⊥
 not_minus m n low e =
@@ -55,7 +56,8 @@ pub digits_one : (m n : ℤ) → mag m < 2 ^ 128 → mag n < 2 ^ 128 → signed_
 digits_one (pos m) (pos n) low also e = ap pos (decimal_one m n (omega arith) (omega arith) e)
 digits_one (pos m) (negsuc n) low also e = absurd (not_minus m n (omega arith) e)
 digits_one (negsuc m) (pos n) low also e = absurd (not_minus n m (omega arith) (sym e))
-digits_one (negsuc m) (negsuc n) low also e = let same = decimal_one (suc m) (suc n) (omega arith) (omega arith) (ap (drop 1) e) in ap negsuc (omega (arith, same))
+digits_one (negsuc m) (negsuc n) low also e = let same =
+    decimal_one (suc m) (suc n) (omega arith) (omega arith) (ap (drop 1) e) in ap negsuc (omega (arith, same))
 
 pub is_wide : (n : ℤ) → IsShort n → mag n < 2 ^ 128
 is_wide (pos n) h = omega arith
@@ -89,7 +91,8 @@ is_short node n low h = absurd h
 pub same_itself : (name : List ℕ) → same_but_for_case name name ≡ true
 same_itself name = (bytes_eq-Decides (map to_ascii_lowercase name) (map to_ascii_lowercase name)).1 refl
 
-pub all_at : {X : Type 0} (P : X → Type 0) (xs : List X) (i : ℕ) (x : X) → AllByRecursion P xs → slice_get xs i ≡ Some x → P x
+pub all_at : {X : Type 0} (P : X → Type 0) (xs : List X) (i : ℕ) (x : X) → AllByRecursion P xs → slice_get xs i ≡ Some x
+    → P x
 all_at P [] i x h e = absurd (subst none_there e tt)
   where
     none_there : {X : Type 0} → Option X → Type 0
@@ -98,20 +101,26 @@ all_at P [] i x h e = absurd (subst none_there e tt)
 all_at P (first ∷ xs) zero x h e = subst P (same_Some first x e) h.0
 all_at P (first ∷ xs) (suc i) x h e = all_at P xs i x h.1 e
 
-pub two_places : (first : List ℕ) (names : List (List ℕ)) (i : ℕ) (name : List ℕ) → AllByRecursion (λ other. same_but_for_case first other ≡ false) names
+pub two_places : (first : List ℕ) (names : List (List ℕ)) (i : ℕ) (name : List ℕ)
+    → AllByRecursion (λ other. same_but_for_case first other ≡ false) names
     → Some first ≡ Some name → slice_get names i ≡ Some name → ⊥
 two_places first names i name h e f =
     false≢true (sym (all_at (λ other. same_but_for_case first other ≡ false) names i name h f)
     ∙ ap (λ l. same_but_for_case l name) (same_Some first name e) ∙ same_itself name)
 
-pub one_place : (names : List (List ℕ)) (i j : ℕ) (name : List ℕ) → AreApart names → slice_get names i ≡ Some name → slice_get names j ≡ Some name → i ≡ j
+pub one_place : (names : List (List ℕ)) (i j : ℕ) (name : List ℕ) → AreApart names → slice_get names i ≡ Some name
+    → slice_get names j ≡ Some name → i ≡ j
 one_place [] i j name apart e f = absurd (all_at (λ x. ⊥) [] i name tt e)
 one_place (first ∷ names) zero zero name apart e f = refl
-one_place (first ∷ names) zero (suc j) name apart e f = absurd (two_places first names j name (IsDistinct-head same_but_for_case first names apart) e f)
-one_place (first ∷ names) (suc i) zero name apart e f = absurd (two_places first names i name (IsDistinct-head same_but_for_case first names apart) f e)
-one_place (first ∷ names) (suc i) (suc j) name apart e f = ap suc (one_place names i j name (IsDistinct-tail same_but_for_case first names apart) e f)
+one_place (first ∷ names) zero (suc j) name apart e f =
+    absurd (two_places first names j name (IsDistinct-head same_but_for_case first names apart) e f)
+one_place (first ∷ names) (suc i) zero name apart e f =
+    absurd (two_places first names i name (IsDistinct-head same_but_for_case first names apart) f e)
+one_place (first ∷ names) (suc i) (suc j) name apart e f =
+    ap suc (one_place names i j name (IsDistinct-tail same_but_for_case first names apart) e f)
 
-pub label_one : (labels : List (List ℕ)) (m n : ℤ) (label : List ℕ) → AreApart labels → label_of labels m ≡ Some label → label_of labels n ≡ Some label → m ≡ n
+pub label_one : (labels : List (List ℕ)) (m n : ℤ) (label : List ℕ) → AreApart labels → label_of labels m ≡ Some label
+    → label_of labels n ≡ Some label → m ≡ n
 label_one labels (pos m) (pos n) label apart e f = ap pos (one_place labels m n label apart e f)
 label_one labels (negsuc m) n label apart e f = absurd (all_at (λ x. ⊥) [] 0 label tt e)
 label_one labels (pos m) (negsuc n) label apart e f = absurd (all_at (λ x. ⊥) [] 0 label tt f)
@@ -138,17 +147,21 @@ char_one (negsuc m) n low also e = absurd low
 char_one (pos m) (negsuc n) low also e = absurd also
 
 -- by digits
-by_digits : (node : Node) (m n : ℤ) (token : Token) → IsLow node → IsNumber node m → IsNumber node n → token ≡ digits m → token ≡ digits n → m ≡ n
-by_digits node m n token low h k e f = digits_one m n (is_wide m (is_short node m low h)) (is_wide n (is_short node n low k)) (ap text_in (sym e ∙ f))
+by_digits : (node : Node) (m n : ℤ) (token : Token) → IsLow node → IsNumber node m → IsNumber node n → token ≡ digits m
+    → token ≡ digits n → m ≡ n
+by_digits node m n token low h k e f =
+    digits_one m n (is_wide m (is_short node m low h)) (is_wide n (is_short node n low k)) (ap text_in (sym e ∙ f))
 
 not_both : (n : ℤ) (label : List ℕ) (token : Token) → token ≡ digits n → token ≡ string label → ⊥
 not_both n label token e f = subst Is_string (sym f ∙ e) tt
 
-pub number_one : (labels : List (List ℕ)) (node : Node) (m n : ℤ) (token : Token) → IsLow node → IsNamed node labels → IsNumber node m → IsNumber node n
+pub number_one : (labels : List (List ℕ)) (node : Node) (m n : ℤ) (token : Token) → IsLow node → IsNamed node labels
+    → IsNumber node m → IsNumber node n
     → SaysNumber labels node m token → SaysNumber labels node n token → m ≡ n
 number_one labels Boolean m n token low apart h k e f = truth_one m n h k (ap truth_in (sym e ∙ f))
 number_one labels Char m n token low apart h k e f =
-    char_one m n h k (ap (λ l. get_or l 0 0) (encodes_same (octet_of m ∷ []) (octet_of n ∷ []) (ap text_in (sym e ∙ f))))
+    char_one m n h k (ap (λ l. get_or l 0 0)
+    (encodes_same (octet_of m ∷ []) (octet_of n ∷ []) (ap text_in (sym e ∙ f))))
 number_one labels (Enum limit) m n token low apart h k (inl e) (inl f) = by_digits (Enum limit) m n token low h k e f
 number_one labels (Enum limit) m n token low apart h k (inl e) (inr f) = absurd (not_both m f.0 token e f.2)
 number_one labels (Enum limit) m n token low apart h k (inr e) (inl f) = absurd (not_both n e.0 token f e.2)

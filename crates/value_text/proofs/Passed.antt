@@ -32,7 +32,8 @@ pub kept : (x : ℕ) (t : List ℕ) → (x ≡ 194 → ⊥) → (x ≡ 127 → �
 unfolding pass
 kept x t a b = rw (ne_eqb x 194 a, ne_eqb x 127 b)
 
-pub kept_behind : (x : ℕ) (t : List ℕ) → (x < 128) ⊎ (160 ≤ x) → (x ≡ 194 → ⊥) → (x ≡ 127 → ⊥) → pass true (x ∷ t) ≡ 194 ∷ x ∷ pass false t
+pub kept_behind : (x : ℕ) (t : List ℕ) → (x < 128) ⊎ (160 ≤ x) → (x ≡ 194 → ⊥) → (x ≡ 127 → ⊥)
+    → pass true (x ∷ t) ≡ 194 ∷ x ∷ pass false t
 unfolding pass
 kept_behind x t (inl low) a b = rw (lt-leb 128 x low, ne_eqb x 194 a, ne_eqb x 127 b)
 kept_behind x t (inr high) a b = rw (le-leb 128 x (omega arith), le-ltb x 160 high, ne_eqb x 194 a, ne_eqb x 127 b)
@@ -65,7 +66,8 @@ one_octet c t small = elim (cases_eq c 127) [
       (ap (λ l. pass false (l ++ t)) (encode_ascii 127 (omega arith)))
   | inr ne ↦
       let is = encode_ascii c small in
-      ap (λ l. pass false (l ++ t)) is ∙ kept c t (λ e. omega arith) ne ∙ ap (λ l. l ++ pass false t) (sym (written_plain c (inl (omega arith)) ∙ is))
+      ap (λ l. pass false (l ++ t)) is ∙ kept c t (λ e. omega arith) ne
+      ∙ ap (λ l. l ++ pass false t) (sym (written_plain c (inl (omega arith)) ∙ is))
 ]
 
 of_two : (c : ℕ) → 128 ≤ c → c < 2048 → encode c ≡ (192 + c / 64) ∷ (128 + c % 64) ∷ []
@@ -80,7 +82,8 @@ of_c2 c low high =
 
 behind_c2 : (c : ℕ) (t : List ℕ) → 128 ≤ c → c < 192 → pass true (c ∷ t) ≡ written c ++ pass false t
 behind_c2 c t low high = elim (cases_lt c 160) [
-  | inl control ↦ escaped_behind c t low control ∙ ap (λ l. l ++ pass false t) (sym (written_escape c (omega arith) (omega arith)))
+  | inl control ↦ escaped_behind c t low control
+      ∙ ap (λ l. l ++ pass false t) (sym (written_escape c (omega arith) (omega arith)))
   | inr other ↦
       kept_behind c t (inr other) (λ e. omega arith) (λ e. omega arith)
       ∙ ap (λ l. l ++ pass false t) (sym (written_plain c (inr (omega arith)) ∙ of_c2 c low high))
@@ -122,14 +125,25 @@ next_other n = (inl (omega arith), omega arith)
 others : (c : ℕ) → 2048 ≤ c → AreOthers (encode c)
 unfolding AreOthers encode
 others c low = elim (cases_lt c 65536) [
-  | inl three ↦ rw (le-ltb c 128 (omega arith), le-ltb c 2048 low, lt-ltb c 65536 three)
-      (inr (omega arith), omega arith, ((next_other (c / 64)).0, (next_other (c / 64)).1, ((next_other c).0, (next_other c).1, tt)))
-  | inr four ↦ rw (le-ltb c 128 (omega arith), le-ltb c 2048 low, le-ltb c 65536 four)
-      (inr (omega arith), omega arith, ((next_other (c / 4096)).0, (next_other (c / 4096)).1, ((next_other (c / 64)).0, (next_other (c / 64)).1, ((next_other c).0, (next_other c).1, tt))))
+  | inl three ↦ rw (le-ltb c 128 (omega arith), le-ltb c 2048 low, lt-ltb c 65536 three) (
+    inr (omega arith),
+    omega arith,
+    ((next_other (c / 64)).0, (next_other (c / 64)).1, ((next_other c).0, (next_other c).1, tt)),
+  )
+  | inr four ↦ rw (le-ltb c 128 (omega arith), le-ltb c 2048 low, le-ltb c 65536 four) (
+    inr (omega arith),
+    omega arith,
+    (
+      (next_other (c / 4096)).0,
+      (next_other (c / 4096)).1,
+      ((next_other (c / 64)).0, (next_other (c / 64)).1, ((next_other c).0, (next_other c).1, tt)),
+    ),
+  )
 ]
 
 more_octets : (c : ℕ) (t : List ℕ) → 2048 ≤ c → pass false (encode c ++ t) ≡ written c ++ pass false t
-more_octets c t low = kept_others (encode c) t (others c low) ∙ ap (λ l. l ++ pass false t) (sym (written_plain c (inr (omega arith))))
+more_octets c t low = kept_others (encode c) t (others c low)
+    ∙ ap (λ l. l ++ pass false t) (sym (written_plain c (inr (omega arith))))
 
 one : (c : ℕ) (t : List ℕ) → pass false (encode c ++ t) ≡ written c ++ pass false t
 one c t = elim (cases_lt c 128) [
@@ -146,8 +160,10 @@ pub passed : (text : List ℕ) → IsUtf8 text → escaped text ≡ pass false t
 passed text u = sym (of_characters (chars text)) ∙ ap (pass false) (encodes-chars text u)
 
 -- where neither stands in it, a text stays
-pub unchanged : (text : List ℕ) → ((k : ℕ) → k < length text → (get_or text k 0 ≡ 194 → ⊥) × (get_or text k 0 ≡ 127 → ⊥)) → pass false text ≡ text
+pub unchanged : (text : List ℕ)
+    → ((k : ℕ) → k < length text → (get_or text k 0 ≡ 194 → ⊥) × (get_or text k 0 ≡ 127 → ⊥)) → pass false text ≡ text
 unfolding pass
 unchanged [] h = refl
 unchanged (x ∷ xs) h =
-    kept x xs (h 0 (omega arith)).0 (h 0 (omega arith)).1 ∙ ap (λ l. x ∷ l) (unchanged xs (λ k below. h (suc k) (omega arith)))
+    kept x xs (h 0 (omega arith)).0 (h 0 (omega arith)).1
+    ∙ ap (λ l. x ∷ l) (unchanged xs (λ k below. h (suc k) (omega arith)))

@@ -58,7 +58,8 @@ lex_passed s r =
 
 module _ (r : List ℕ) (same : lex between (pass false r) ≡ lex between r) where
   -- one octet of its own
-  mark : (x : ℕ) (m : Lexeme) → x < 127 → ((u : List ℕ) → lex between (x ∷ u) ≡ m ∷ lex between u) → lex between (pass false (x ∷ r)) ≡ lex between (x ∷ r)
+  mark : (x : ℕ) (m : Lexeme) → x < 127 → ((u : List ℕ) → lex between (x ∷ u) ≡ m ∷ lex between u)
+      → lex between (pass false (x ∷ r)) ≡ lex between (x ∷ r)
   mark x m low is = ap (lex between) (kept_low false x r low) ∙ is (pass false r) ∙ ap (λ l. m ∷ l) same ∙ sym (is r)
 
   quoted_same : (s : List ℕ) → lex between (pass false (quoted s ++ r)) ≡ lex between (quoted s ++ r)
@@ -66,20 +67,26 @@ module _ (r : List ℕ) (same : lex between (pass false r) ≡ lex between r) wh
 
   -- a word that ends
   word_same : (w : List ℕ) (t : Token) → AreLow w → ends_word r ≡ true → ends_word (pass false r) ≡ true
-      → ((u : List ℕ) → ends_word u ≡ true → lex between (w ++ u) ≡ token t ∷ lex between u) → lex between (pass false (w ++ r)) ≡ lex between (w ++ r)
-  word_same w t low ends passed_ends is = ap (lex between) (kept_all w r low) ∙ is (pass false r) passed_ends ∙ ap (λ l. token t ∷ l) same ∙ sym (is r ends)
+      → ((u : List ℕ) → ends_word u ≡ true → lex between (w ++ u) ≡ token t ∷ lex between u)
+      → lex between (pass false (w ++ r)) ≡ lex between (w ++ r)
+  word_same w t low ends passed_ends is = ap (lex between) (kept_all w r low) ∙ is (pass false r) passed_ends
+      ∙ ap (λ l. token t ∷ l) same ∙ sym (is r ends)
 
-lex_mark : (u : List ℕ) → (lex between (123 ∷ u) ≡ token begin_object ∷ lex between u) × (lex between (125 ∷ u) ≡ token end_object ∷ lex between u)
-    × (lex between (91 ∷ u) ≡ token begin_array ∷ lex between u) × (lex between (93 ∷ u) ≡ token end_array ∷ lex between u)
+lex_mark : (u : List ℕ) → (lex between (123 ∷ u) ≡ token begin_object ∷ lex between u)
+    × (lex between (125 ∷ u) ≡ token end_object ∷ lex between u)
+    × (lex between (91 ∷ u) ≡ token begin_array ∷ lex between u)
+    × (lex between (93 ∷ u) ≡ token end_array ∷ lex between u)
     × (lex between (58 ∷ u) ≡ colon ∷ lex between u) × (lex between (44 ∷ u) ≡ comma ∷ lex between u)
 unfolding lex
 lex_mark u = (refl, refl, refl, refl, refl, refl)
 
-true_word : (u : List ℕ) → ends_word u ≡ true → lex between (116 ∷ 114 ∷ 117 ∷ 101 ∷ u) ≡ token (boolean true) ∷ lex between u
+true_word : (u : List ℕ) → ends_word u ≡ true → lex between (116 ∷ 114 ∷ 117 ∷ 101 ∷ u)
+    ≡ token (boolean true) ∷ lex between u
 unfolding lex word
 true_word u e = ap₂ (λ b l. token (cond b (boolean true) bad) ∷ l) e (in_word-ended u e)
 
-false_word : (u : List ℕ) → ends_word u ≡ true → lex between (102 ∷ 97 ∷ 108 ∷ 115 ∷ 101 ∷ u) ≡ token (boolean false) ∷ lex between u
+false_word : (u : List ℕ) → ends_word u ≡ true → lex between (102 ∷ 97 ∷ 108 ∷ 115 ∷ 101 ∷ u)
+    ≡ token (boolean false) ∷ lex between u
 unfolding lex word
 false_word u e = ap₂ (λ b l. token (cond b (boolean false) bad) ∷ l) e (in_word-ended u e)
 
@@ -90,7 +97,8 @@ null_word u e = ap₂ (λ b l. token (cond b null bad) ∷ l) e (in_word-ended u
 abbrev Same : List ℕ → Type 0
 Same text = lex between (pass false text) ≡ lex between text
 
-token_same : (t : Token) (ts : List Token) → IsPrintableOrBad t → Same (print_from (ends t) ts) → Same (token_text t ++ print_from (ends t) ts)
+token_same : (t : Token) (ts : List Token) → IsPrintableOrBad t → Same (print_from (ends t) ts)
+    → Same (token_text t ++ print_from (ends t) ts)
 token_same begin_object ts h same = mark _ same 123 (token begin_object) (omega arith) (λ u. (lex_mark u).0)
 token_same end_object ts h same = mark _ same 125 (token end_object) (omega arith) (λ u. (lex_mark u).1)
 token_same begin_array ts h same = mark _ same 91 (token begin_array) (omega arith) (λ u. (lex_mark u).2)
@@ -100,13 +108,18 @@ token_same (key s) ts h same =
     subst Same (sym (append_assoc (quoted s) (58 ∷ []) r))
     (quoted_same (58 ∷ r) (mark r same 58 colon (omega arith) (λ u. (lex_mark u).4)) s)
 token_same (string s) ts h same = quoted_same _ same s
-token_same (number s) ts h same = word_same _ same s (number s) (low_number s h) (ended ts) (pass_ended ts) (λ u e. lex-number s u h e)
+token_same (number s) ts h same =
+    word_same _ same s (number s) (low_number s h) (ended ts) (pass_ended ts) (λ u e. lex-number s u h e)
 token_same (boolean true) ts h same =
-    word_same _ same (116 ∷ 114 ∷ 117 ∷ 101 ∷ []) (boolean true) (omega arith, (omega arith, (omega arith, (omega arith, tt)))) (ended ts) (pass_ended ts) true_word
+    word_same _ same (116 ∷ 114 ∷ 117 ∷ 101 ∷ []) (boolean true)
+    (omega arith, (omega arith, (omega arith, (omega arith, tt)))) (ended ts) (pass_ended ts) true_word
 token_same (boolean false) ts h same =
-    word_same _ same (102 ∷ 97 ∷ 108 ∷ 115 ∷ 101 ∷ []) (boolean false) (omega arith, (omega arith, (omega arith, (omega arith, (omega arith, tt))))) (ended ts) (pass_ended ts) false_word
+    word_same _ same (102 ∷ 97 ∷ 108 ∷ 115 ∷ 101 ∷ []) (boolean false)
+    (omega arith, (omega arith, (omega arith, (omega arith, (omega arith, tt))))) (ended ts) (pass_ended ts)
+    false_word
 token_same null ts h same =
-    word_same _ same (110 ∷ 117 ∷ 108 ∷ 108 ∷ []) null (omega arith, (omega arith, (omega arith, (omega arith, tt)))) (ended ts) (pass_ended ts) null_word
+    word_same _ same (110 ∷ 117 ∷ 108 ∷ 108 ∷ []) null (omega arith, (omega arith, (omega arith, (omega arith, tt))))
+    (ended ts) (pass_ended ts) null_word
 token_same bad ts h same = same
 
 separated : (b : Bool) (text : List ℕ) → Same text → Same (cond b (44 ∷ []) [] ++ text)
@@ -118,7 +131,8 @@ unfolding print_from lex pass
 print_same after [] h = refl
 print_same after (t ∷ ts) h = separated (after && begins t) _ (token_same t ts h.0 (print_same (ends t) ts h.1))
 
-pub says_the_same : (said : List Token) → IsUtf8 (print said) → tokens (print said) ≡ said → tokens (escaped (print said)) ≡ said
+pub says_the_same : (said : List Token) → IsUtf8 (print said) → tokens (print said) ≡ said
+    → tokens (escaped (print said)) ≡ said
 says_the_same said u back =
     let printable = subst ArePrintableOrBad back (ArePrintableOrBad-tokens (print said)) in
     ap tokens (passed (print said) u) ∙ ap (punctuate fresh) (print_same false said printable) ∙ back

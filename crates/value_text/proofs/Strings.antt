@@ -13,7 +13,8 @@ use Rattle.value_text.specs.Escaped.{escape_of}
 use Rattle.value_text.proofs.Passed.{held, pass, AreLow, kept, kept_behind, escaped_behind, kept_low, kept_all, of_c2}
 
 -- an octet that stands for itself in a string
-stays_inside : (o s : Bool) (x : ℕ) (r : List ℕ) (k : Mode → List Lexeme) → lex_byte in_string (cond o operator (cond s space other)) x r k ≡ k in_string
+stays_inside : (o s : Bool) (x : ℕ) (r : List ℕ) (k : Mode → List Lexeme)
+    → lex_byte in_string (cond o operator (cond s space other)) x r k ≡ k in_string
 stays_inside true s x r k = refl
 stays_inside false true x r k = refl
 stays_inside false false x r k = refl
@@ -22,7 +23,8 @@ lex_plain : (x : ℕ) (r : List ℕ) → (x ≡ 34 → ⊥) → (x ≡ 92 → �
 unfolding lex
 lex_plain x r q b = rw (ne_eqb x 34 q, ne_eqb x 92 b) (stays_inside (is_operator x) (is_space x) x r (λ m. lex m r))
 
-read_plain : (x : ℕ) (r : List ℕ) → (x ≡ 34 → ⊥) → (x ≡ 92 → ⊥) → 32 ≤ x → content plain (x ∷ r) ≡ prepend (x ∷ []) (content plain r)
+read_plain : (x : ℕ) (r : List ℕ) → (x ≡ 34 → ⊥) → (x ≡ 92 → ⊥) → 32 ≤ x
+    → content plain (x ∷ r) ≡ prepend (x ∷ []) (content plain r)
 unfolding content
 read_plain x r q b l = rw (ne_eqb x 34 q, ne_eqb x 92 b, le-ltb x 32 l)
 
@@ -35,9 +37,15 @@ digit_bounds n small = elim (cases_lt n 10) [
 
 unit : (h l : ℕ) → h < 16 → l < 16 → code_unit 48 48 (digit_char h) (digit_char l) ≡ Some (h * 16 + l)
 unfolding code_unit
-unit h l a b = rw (digit_value-digit_char h (omega arith), digit_value-digit_char l (omega arith), lt-ltb h 16 a, lt-ltb l 16 b) (let e : 0 + h * 16 + l ≡ h * 16 + l = omega arith in ap Some e)
+unit h l a b = rw (
+  digit_value-digit_char h (omega arith),
+  digit_value-digit_char l (omega arith),
+  lt-ltb h 16 a,
+  lt-ltb l 16 b,
+) (let e : 0 + h * 16 + l ≡ h * 16 + l = omega arith in ap Some e)
 
-read_escape : (c : ℕ) (r : List ℕ) → c < 256 → content plain (escape_of c ++ r) ≡ prepend (encode_utf8 c) (content plain r)
+read_escape : (c : ℕ) (r : List ℕ) → c < 256 → content plain (escape_of c ++ r)
+    ≡ prepend (encode_utf8 c) (content plain r)
 unfolding content
 read_escape c r small =
     let whole : (c / 16) * 16 + c % 16 ≡ c = omega arith in
@@ -49,7 +57,8 @@ unfolding lex
 lex_escape c r small =
     let high = digit_bounds (c / 16) (omega arith) in
     let low = digit_bounds (c % 16) (omega arith) in
-    lex_plain (digit_char (c / 16)) _ (λ e. omega arith) high.2 ∙ lex_plain (digit_char (c % 16)) r (λ e. omega arith) low.2
+    lex_plain (digit_char (c / 16)) _ (λ e. omega arith) high.2
+    ∙ lex_plain (digit_char (c % 16)) r (λ e. omega arith) low.2
 
 low_escape : (c : ℕ) → c < 256 → AreLow (escape_of c)
 low_escape c small =
@@ -103,7 +112,16 @@ other_escaped x small b t n f r =
     let low = low_escape x (omega arith) in
     record {
       rest = 117 ∷ 48 ∷ 48 ∷ digit_char (x / 16) ∷ digit_char (x % 16) ∷ [];
-      is = rw (ne_eqb x 34 (λ e. omega arith), ne_eqb x 92 (λ e. omega arith), ne_eqb x 8 b, ne_eqb x 12 f, ne_eqb x 10 n, ne_eqb x 13 r, ne_eqb x 9 t, lt-ltb x 32 small) refl;
+      is = rw (
+        ne_eqb x 34 (λ e. omega arith),
+        ne_eqb x 92 (λ e. omega arith),
+        ne_eqb x 8 b,
+        ne_eqb x 12 f,
+        ne_eqb x 10 n,
+        ne_eqb x 13 r,
+        ne_eqb x 9 t,
+        lt-ltb x 32 small,
+      ) refl;
       low = low.1;
       read = λ r. read_escape x r (omega arith) ∙ ap (λ l. prepend l (content plain r)) (ascii_itself x (omega arith));
       lexed = λ r. lex_escape x r (omega arith);
@@ -166,7 +184,9 @@ pub record Says (held : List ℕ) (s : List ℕ) (text : List ℕ) (r : List ℕ
   pub lexed : lex in_string text ≡ lex between r
 
 -- one more front
-more : (b : Bool) (front octets s u r : List ℕ) → ((w : List ℕ) → content plain (front ++ w) ≡ prepend octets (content plain w)) → ((w : List ℕ) → lex in_string (front ++ w) ≡ lex in_string w)
+more : (b : Bool) (front octets s u r : List ℕ)
+    → ((w : List ℕ) → content plain (front ++ w) ≡ prepend octets (content plain w))
+    → ((w : List ℕ) → lex in_string (front ++ w) ≡ lex in_string w)
     → Says [] s u r → Says (held b) (octets ++ s) (held b ++ (front ++ u)) r
 more b front octets s u r read lexed says = record {
   read = held_read b (front ++ u) ∙ ap (prepend (held b)) (read u ∙ ap (prepend octets) says.read);
@@ -182,28 +202,38 @@ module _ (s t r : List ℕ) (next : (b : Bool) → Says (held b) s (pass b t) r)
   behind_escape : (b : Bool) (x : ℕ) → IsEscaped x → Says (held b) (x ∷ s) (pass b (escape_byte x ++ t)) r
   behind_escape b x e =
       let low : 92 < 127 = omega arith in
-      let passed = ap (λ l. pass b (l ++ t)) e.is ∙ kept_low b 92 (e.rest ++ t) low ∙ ap (λ l. held b ++ (92 ∷ l)) (kept_all e.rest t e.low) in
+      let passed = ap (λ l. pass b (l ++ t)) e.is ∙ kept_low b 92 (e.rest ++ t) low
+      ∙ ap (λ l. held b ++ (92 ∷ l)) (kept_all e.rest t e.low) in
       subst (λ l. Says (held b) (x ∷ s) l r) (sym passed)
       (more b (92 ∷ e.rest) (x ∷ []) s (pass false t) r e.read e.lexed (next false))
 
-  itself : (b : Bool) (x : ℕ) → IsPlain x → pass b (x ∷ t) ≡ held b ++ (x ∷ pass false t) → Says (held b) (x ∷ s) (pass b (x ∷ t)) r
+  itself : (b : Bool) (x : ℕ) → IsPlain x → pass b (x ∷ t) ≡ held b ++ (x ∷ pass false t)
+      → Says (held b) (x ∷ s) (pass b (x ∷ t)) r
   itself b x p e = subst (λ l. Says (held b) (x ∷ s) l r) (sym e)
-      (more b (x ∷ []) (x ∷ []) s (pass false t) r (λ w. read_plain x w p.quote p.backslash p.high) (λ w. lex_plain x w p.quote p.backslash) (next false))
+      (more b (x ∷ []) (x ∷ []) s (pass false t) r (λ w. read_plain x w p.quote p.backslash p.high)
+      (λ w. lex_plain x w p.quote p.backslash) (next false))
 
   delete : (b : Bool) → Says (held b) (127 ∷ s) (pass b (127 ∷ t)) r
   delete b = subst (λ l. Says (held b) (127 ∷ s) l r) (sym (delete_passed b t))
-      (more b (escape_of 127) (127 ∷ []) s (pass false t) r (λ w. read_escape 127 w (omega arith) ∙ ap (λ l. prepend l (content plain w)) (ascii_itself 127 (omega arith))) (λ w. lex_escape 127 w (omega arith)) (next false))
+      (more b (escape_of 127) (127 ∷ []) s (pass false t) r
+      (λ w. read_escape 127 w (omega arith)
+      ∙ ap (λ l. prepend l (content plain w)) (ascii_itself 127 (omega arith)))
+      (λ w. lex_escape 127 w (omega arith)) (next false))
 
   lead : (b : Bool) → Says (held b) (194 ∷ s) (pass b (194 ∷ t)) r
   unfolding pass
   lead false = record { read = (next true).read; lexed = (next true).lexed }
-  lead true = more true [] [] (194 ∷ s) (pass true t) r (λ w. sym (prepend-nil _)) (λ w. refl) (record { read = (next true).read; lexed = (next true).lexed })
+  lead true = more true [] [] (194 ∷ s) (pass true t) r (λ w. sym (prepend-nil _)) (λ w. refl)
+      (record { read = (next true).read; lexed = (next true).lexed })
 
   control : (x : ℕ) → 128 ≤ x → x < 160 → Says (194 ∷ []) (x ∷ s) (pass true (x ∷ t)) r
   control x low high =
-      let octets = λ (w : List ℕ). read_escape x w (omega arith) ∙ ap (λ l. prepend l (content plain w)) (of_c2 x low (omega arith)) in
-      let is = more false (escape_of x) (194 ∷ x ∷ []) s (pass false t) r octets (λ w. lex_escape x w (omega arith)) (next false) in
-      subst (λ l. Says (194 ∷ []) (x ∷ s) l r) (sym (escaped_behind x t low high)) (record { read = is.read; lexed = is.lexed })
+      let octets = λ (w : List ℕ). read_escape x w (omega arith)
+      ∙ ap (λ l. prepend l (content plain w)) (of_c2 x low (omega arith)) in
+      let is = more false (escape_of x) (194 ∷ x ∷ []) s (pass false t) r octets (λ w. lex_escape x w (omega arith))
+      (next false) in
+      subst (λ l. Says (194 ∷ []) (x ∷ s) l r) (sym (escaped_behind x t low high))
+      (record { read = is.read; lexed = is.lexed })
 
   behind_plain : (b : Bool) (x : ℕ) → IsPlain x → Says (held b) (x ∷ s) (pass b (x ∷ t)) r
   behind_plain b x p = elim (cases_eq x 194) [
@@ -214,7 +244,8 @@ module _ (s t r : List ℕ) (next : (b : Bool) → Says (held b) s (pass b t) r)
     ]
   ]
     where
-      by_place : (b : Bool) → (x ≡ 194 → ⊥) → (x ≡ 127 → ⊥) → (x < 128) ⊎ (128 ≤ x) → (x < 160) ⊎ (160 ≤ x) → Says (held b) (x ∷ s) (pass b (x ∷ t)) r
+      by_place : (b : Bool) → (x ≡ 194 → ⊥) → (x ≡ 127 → ⊥) → (x < 128) ⊎ (128 ≤ x) → (x < 160) ⊎ (160 ≤ x)
+          → Says (held b) (x ∷ s) (pass b (x ∷ t)) r
       by_place false l d low high = itself false x p (kept x t l d)
       by_place true l d (inl low) high = itself true x p (kept_behind x t (inl low) l d)
       by_place true l d (inr low) (inl high) = control x low high
@@ -233,5 +264,6 @@ says b (x ∷ s) r =
     subst (λ l. Says (held b) (x ∷ s) (pass b l) ends) (sym (append_assoc (escape_byte x) (escape s) (34 ∷ r)))
     (elim (cases_of x) [
       | inl e ↦ behind_escape s t ends next b x e
-      | inr p ↦ subst (λ l. Says (held b) (x ∷ s) (pass b (l ++ t)) ends) (sym (escape_byte_plain x p.quote p.backslash p.high)) (behind_plain s t ends next b x p)
+      | inr p ↦ subst (λ l. Says (held b) (x ∷ s) (pass b (l ++ t)) ends)
+          (sym (escape_byte_plain x p.quote p.backslash p.high)) (behind_plain s t ends next b x p)
     ])

@@ -9,10 +9,10 @@ ghost use Rattle.value_text.specs.Stringified.{Stringifies, FitsObject};
 ghost use Rattle.value_text.specs.inner.Reading.{Next};
 
 use crate::fault::Wanted;
+use crate::reference_values::reference_value;
 use giop_types::GiopTypes;
 use idl_value::Value;
 use json::{Reader, Token};
-use crate::reference_values::reference_value;
 use std::alloc::{AllocError, AllocFailed, Global};
 use std::marker::Model;
 

@@ -29,19 +29,19 @@ mod shape;
 mod words;
 
 use crate::cursor::{Cursor, Stop};
+use crate::escaped_json::escape;
 use crate::lookup::Lookup;
 use crate::place::refused_at;
 use crate::printing::write_value;
 use crate::reading::{Sought, read_value};
-use crate::escaped_json::escape;
 pub use fault::{PrintFault, ReadFault, Refusal, TextPlace, Wanted};
 use idl_value::{Value, conforms};
 use json::{Reader, Scratch, Writer};
-use type_model::part_names::PartNames;
 pub use parts::{packed, printed};
 pub use shape::refers;
 use std::alloc::Global;
 use type_graph::Graph;
+use type_model::part_names::PartNames;
 
 /// How many sequences may stand one inside another.
 const MAX_DEPTH: u32 = 64;

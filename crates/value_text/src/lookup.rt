@@ -4,9 +4,9 @@
 ghost use Rattle.std.specs.Prelude.{◌≡◌, ◌<◌, ℕ, Some, IfSome, IfNone, OnOk, slice_get};
 ghost use Rattle.type_model.specs.PartNamesNames.{AreApart, names_at};
 
-use type_model::part_names::{NodeNames, PartNames};
 use std::alloc::{AllocError, Global};
 use type_graph::Items;
+use type_model::part_names::{NodeNames, PartNames};
 use type_model::{Name, NameTable};
 
 /// A table for each node.

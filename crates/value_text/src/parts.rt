@@ -9,9 +9,9 @@ ghost use Rattle.value_text.specs.Tapes.{IsTape, IsTextOfTape};
 use crate::fault::PrintFault;
 use crate::print;
 use idl_value::{Value, ValueFault, pack, unpack};
-use type_model::part_names::PartNames;
 use std::alloc::{AllocError, Global};
 use type_graph::Graph;
+use type_model::part_names::PartNames;
 
 /// The tape of a value of a node.
 ///

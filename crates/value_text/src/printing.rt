@@ -12,9 +12,9 @@ use crate::scalars::{write_chars, write_number, write_octets, write_reference, w
 use crate::shape::refers;
 use idl_value::Value;
 use json::Writer;
-use type_model::part_names::{NodeNames, PartNames};
 use std::alloc::{AllocError, Global};
 use type_graph::{Graph, Node};
+use type_model::part_names::{NodeNames, PartNames};
 
 fn number_at(members: &[u32], place: usize) -> Option<u32>
     ensures { result ≡ slice_get members.now place }

@@ -21,9 +21,9 @@ use crate::shape::refers;
 use crate::words::{read_chars, read_number, read_octets, read_text};
 use idl_value::Value;
 use json::Token;
-use type_model::part_names::{NodeNames, PartNames};
 use std::alloc::{AllocError, Global};
 use type_graph::{Arms, Graph, Node};
+use type_model::part_names::{NodeNames, PartNames};
 
 /// The types of values, and how the names of their parts are found.
 #[derive(Clone, Copy)]

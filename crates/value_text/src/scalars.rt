@@ -11,12 +11,12 @@ ghost use Rattle.value_text.specs.Pieces.{characters, digits};
 ghost use Rattle.value_text.specs.Texts.{label_of, enumerator_of, number_text};
 ghost use Rattle.value_text.specs.inner.Writing.{Adds};
 
+use crate::reference_values::{octet_of, octets_of, reference_text};
 use idl_value::Value;
 use json::Writer;
-use type_model::part_names::NodeNames;
-use crate::reference_values::{octet_of, octets_of, reference_text};
 use std::alloc::{AllocError, Global};
 use type_graph::Node;
+use type_model::part_names::NodeNames;
 
 /// Each octet as a character.
 fn characters(alloc: Global, octets: &[u8]) -> Result<String, AllocError>

@@ -21,9 +21,9 @@ use crate::fault::Wanted;
 use crate::lookup::Lookup;
 use idl_value::Value;
 use json::Token;
-use type_model::part_names::NodeNames;
 use std::alloc::{AllocError, Global};
 use type_graph::Node;
+use type_model::part_names::NodeNames;
 
 /// The number below 2^64 of which these are the digits.
 fn plain_of(digits: &str) -> Option<i128>

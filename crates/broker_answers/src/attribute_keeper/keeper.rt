@@ -5,7 +5,9 @@ ghost use Rattle.broker_answers.specs.Objects.{objects_of};
 ghost use Rattle.broker_answers.specs.Keeping.{action_in};
 
 use crate::attribute_keeper::action::Action;
-use crate::attribute_keeper::attributes::{find_actions, find_getters, operations_of, zero_replies};
+use crate::attribute_keeper::attributes::{
+    find_actions, find_getters, operations_of, zero_replies,
+};
 use crate::attribute_keeper::kept::Kept;
 use crate::{Outcome, Servant};
 use position_checker::Accepted;

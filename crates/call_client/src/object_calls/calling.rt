@@ -6,8 +6,8 @@ ghost use Rattle.giop.specs.Made.{given_by};
 ghost use Rattle.call_client.specs.Talks.{IsCalledAt, asking};
 
 use crate::object_calls::dial::{Dial, DialFault};
-use giop::{Body, Giop};
 use crate::{Answer, CallFault, Request, call};
+use giop::{Body, Giop};
 use std::alloc::Global;
 
 /// Calls an object at a port of a host, on a connection of its own. So many reads may give octets.

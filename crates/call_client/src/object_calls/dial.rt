@@ -33,7 +33,8 @@ pub trait Dial {
     /// No connection can be made; want of memory, and then nothing was dialled.
     fn dial(&mut self, host: &[u8], port: u16) -> Result<(Self::Reader, Self::Writer), DialFault>
         ensures made { IfOk result (λ it. lines self.new ≡ lines self.old
-            ++ made host.now port (ends (Self.Reader.left it.0) (Self.Writer.written it.1) (Self.Reader.failure it.0) (Self.Writer.failure it.1)) ∷ []) }
+            ++ made host.now port (ends (Self.Reader.left it.0) (Self.Writer.written it.1) (Self.Reader.failure it.0)
+            (Self.Writer.failure it.1)) ∷ []) }
         ensures missed { IfErr result (λ fault. lines self.new ≡ lines self.old ++ vain_of fault host.now port) }
         ensures went { (all : List Ends) → went self.old all → went self.new all };
 

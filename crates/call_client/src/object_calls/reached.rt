@@ -14,8 +14,8 @@ ghost use Rattle.call_client.specs.Talks.{IsCalledBy, IsCalledTo, asking};
 use crate::object_calls::calling::call_at;
 use crate::object_calls::dial::Dial;
 use crate::object_calls::form::Form;
-use giop::{Addressed, Body, Giop, Ior, Tagged};
 use crate::{Answer, CallFault, Request};
+use giop::{Addressed, Body, Giop, Ior, Tagged};
 use reference_listing::{IiopProfile, ListedProfile};
 use std::alloc::Global;
 

@@ -10,10 +10,10 @@ ghost use Rattle.call_commands.specs.Wanted.{called_of};
 
 use crate::followed_calls::heeded::call_heeding;
 use crate::followed_calls::wanted::Wanted;
+use call_client::object_calls::Dial;
+use call_client::{CallFault, Request};
 use command_texts::call_texts::Outcome;
 use giop::{Body, Giop};
-use call_client::{CallFault, Request};
-use call_client::object_calls::Dial;
 use reference_texts::Ior;
 use std::alloc::Global;
 

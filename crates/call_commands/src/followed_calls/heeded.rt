@@ -11,10 +11,10 @@ ghost use Rattle.call_commands.specs.Wanted.{called_of};
 
 use crate::followed_calls::once::call_twice;
 use crate::followed_calls::wanted::Wanted;
+use call_client::object_calls::{Dial, Form};
+use call_client::{CallFault, Request};
 use command_texts::call_texts::Outcome;
 use giop::{Body, Giop};
-use call_client::{CallFault, Request};
-use call_client::object_calls::{Dial, Form};
 use reference_texts::Ior;
 use std::alloc::Global;
 

@@ -12,12 +12,12 @@ ghost use Rattle.call_commands.specs.Tries.{IsCalledTwice, closes};
 ghost use Rattle.call_commands.specs.Wanted.{called_of};
 
 use crate::followed_calls::wanted::Wanted;
+use call_client::object_calls::{Dial, Form, call_by};
+use call_client::{Answer, CallFault, Request};
 use command_texts::call_texts::{Outcome, read_outcome};
 use giop::{Body, Giop, Reply};
-use call_client::{Answer, CallFault, Request};
-use call_client::object_calls::{Dial, Form, call_by};
-use reference_texts::Ior;
 use reference_listing::list_reference;
+use reference_texts::Ior;
 use std::alloc::Global;
 
 /// What an answer says.

@@ -1,7 +1,7 @@
 //! What is wanted of a call.
 
-use type_model::part_names::PartNames;
 use position_checker::Accepted;
+use type_model::part_names::PartNames;
 
 /// The types of a table with the names of their parts, the frame of the result among them, and the
 /// exceptions that the operation may raise.

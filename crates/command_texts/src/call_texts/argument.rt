@@ -6,10 +6,10 @@ ghost use Rattle.type_model.specs.Names.{IsNamed};
 ghost use Rattle.value_text.specs.Refusal.{wants_memory};
 ghost use Rattle.command_texts.specs.Bodies.{IsTapeOfText, SaysNone};
 
-use type_model::part_names::PartNames;
 use position_checker::Accepted;
 use std::alloc::Global;
 use type_graph::Graph;
+use type_model::part_names::PartNames;
 use value_text::{ReadFault, packed, read};
 
 fn tape_in(

@@ -6,10 +6,10 @@ ghost use Rattle.type_model.specs.Names.{IsNamed};
 ghost use Rattle.command_texts.specs.Bodies.{HasNoValue, IsTextOfBody};
 
 use giop_types::find_value;
-use type_model::part_names::PartNames;
 use position_checker::Accepted;
 use std::alloc::{AllocError, Global};
 use type_graph::Order;
+use type_model::part_names::PartNames;
 use value_text::printed;
 
 /// The text of the value of a node with which octets at a place of a message begin; none where they

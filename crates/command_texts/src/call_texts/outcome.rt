@@ -8,13 +8,13 @@ ghost use Rattle.command_texts.specs.Outcomes.{HasNoOutcome, IsOutcome, called};
 use crate::call_texts::body::body_text;
 use crate::call_texts::disposition::read_disposition;
 use crate::call_texts::raised::raised_text;
+use giop::reply_bodies::{SystemException, read_exception, read_forward};
 use giop_messages::{Reply, ReplyStatus};
 use giop_types::GiopTypes;
-use reference_texts::Ior;
-use type_model::part_names::PartNames;
 use position_checker::Accepted;
-use giop::reply_bodies::{SystemException, read_exception, read_forward};
+use reference_texts::Ior;
 use std::alloc::{AllocError, Global};
+use type_model::part_names::PartNames;
 
 /// What becomes of a call.
 #[derive(Drop)]

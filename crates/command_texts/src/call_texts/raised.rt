@@ -8,12 +8,12 @@ ghost use Rattle.command_texts.specs.Outcomes.{BeginsWithId, IsNoneRaised, IsTex
 ghost use Rattle.command_texts.specs.inner.Ids.{IsFrameOfRaised, IsIdTape, IsUnknown};
 
 use crate::call_texts::body::body_text;
-use type_model::called_operations::exception_with;
 use giop_messages::Reply;
 use giop_types::{GiopTypes, ID_ARGUMENT, split_octets};
-use type_model::part_names::PartNames;
 use position_checker::Accepted;
 use std::alloc::{AllocError, Global};
+use type_model::called_operations::exception_with;
+use type_model::part_names::PartNames;
 
 /// The tape of the repository id with which a body begins.
 fn id_tape(

@@ -8,9 +8,9 @@ ghost use Rattle.command_tables.specs.declared.refusal.Refusal.TheVariants.{NoTa
 ghost use Rattle.diagnostic_views.specs.Views.{IsStopLine, stop_line as line_of_stop};
 
 use crate::refusal_views::parts::{node_at, node_words};
+use command_tables::Refusal;
 use position_checker::CheckFault;
 use std::alloc::{AllocError, Global};
-use command_tables::Refusal;
 use table_file::{Table, decode_table, stop_of};
 
 fn stop_line(alloc: Global, at: usize) -> Result<String, AllocError>

@@ -4,8 +4,8 @@ ghost use Rattle.std.specs.Prelude.{◌≡◌, Contains, IfSome, Some, slice_get
 ghost use Rattle.table_file.specs.Table.{program_at};
 ghost use Rattle.table_file.specs.declared.table.Which.{Which};
 
-use position_checker::RoutinePlace;
 use crate::shown_source::all_shown;
+use position_checker::RoutinePlace;
 use std::alloc::{AllocError, Global};
 use table_file::{Table, Which};
 

@@ -7,4 +7,5 @@ use Rattle.generator.proofs.plain.Goals as goal
 pub unreachable-requires : goal.unreachable-requires
 unreachable-requires c =
     let graph : IsGraph c.graph.result.now = subst IsGraph (sym c.graph.ensures.value) c.graph.ensures.rules.graph in
-    c.in-Err.ensures.refused (subst IsProgram (sym c.in_ok-plain_routines.ensures) (plain_is_program c.graph.result.now graph))
+    c.in-Err.ensures.refused
+    (subst IsProgram (sym c.in_ok-plain_routines.ensures) (plain_is_program c.graph.result.now graph))

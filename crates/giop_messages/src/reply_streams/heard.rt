@@ -5,10 +5,10 @@ ghost use Rattle.giop_messages.specs.Heard.{Ends, Waits, heard, heard_from, hear
 ghost use Rattle.giop_messages.specs.ReplyStreamsRoom.{wanted as wanted_in};
 ghost use Rattle.giop_messages.specs.Told.{told};
 
+use crate::FramingFault;
 use crate::reply_streams::head::wanted;
 use crate::reply_streams::reply::SentReply;
 use crate::reply_streams::turn::{Turn, take_turn};
-use crate::FramingFault;
 use std::alloc::{AllocError, Global};
 
 /// A number that no request has, since theirs have 32 bits.

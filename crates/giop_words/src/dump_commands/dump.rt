@@ -7,16 +7,16 @@ ghost use Rattle.giop_words.specs.Faults.{IsOutput};
 use crate::dump_commands::capture::{Capture, CaptureNames, open_capture};
 use crate::dump_commands::fault::CaptureFault;
 use crate::dump_commands::files::CaptureFiles;
-use giop_dumps::captures::CaptureForm;
-use giop::Giop;
-use giop_dumps::{CutShort, Patience, dump_octets, dump_text};
 use crate::{TableWords, Types};
-use type_model::part_names::PartNames;
+use giop::Giop;
+use giop_dumps::captures::CaptureForm;
+use giop_dumps::{CutShort, Patience, dump_octets, dump_text};
 use position_checker::Accepted;
 use std::alloc::{AllocError, Global};
 use std::io::{Read, Write};
 use std::thread;
 use std::time::{Clock, Duration};
+use type_model::part_names::PartNames;
 
 /// Looks again ten times a second, where a capture may go on.
 #[derive(Drop)]

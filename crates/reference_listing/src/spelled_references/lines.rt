@@ -15,9 +15,9 @@ ghost use Rattle.reference_listing.specs.inner.Profiles.{AreGapsOf};
 use crate::spelled_references::names::profile_name;
 use crate::spelled_references::pieces::{all_gaps, behind_text, component_line, tag_text};
 use crate::spelled_references::shown::{digits_text, order_name, shown_text};
+use crate::{IiopProfile, ListedProfile, list_profile};
 use giop_types::{GiopTypes, PROFILE_BODY_1_0, PROFILE_BODY_1_1};
 use reference_texts::{Ior, Manner, ReferenceFault, manner_of};
-use crate::{IiopProfile, ListedProfile, list_profile};
 use std::alloc::{AllocError, Global};
 
 /// What stands before a line of a profile.

@@ -7,8 +7,8 @@ ghost use Rattle.reference_texts.specs.Refusal.{wants_memory};
 ghost use Rattle.reference_texts.specs.Views.{place_of};
 ghost use Rattle.reference_listing.specs.Spelled.{IsOfPlace};
 
-use reference_texts::corbaloc::Location;
 use giop_types::GiopTypes;
+use reference_texts::corbaloc::Location;
 use reference_texts::{Ior, ReferenceFault, profile};
 use std::alloc::{AllocError, Global};
 

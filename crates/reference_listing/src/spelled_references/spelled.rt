@@ -7,8 +7,8 @@ ghost use Rattle.reference_listing.specs.Refusal.{RefusesSpelling};
 
 use crate::spelled_references::fault::SpellingFault;
 use crate::spelled_references::place::reference_at;
-use reference_texts::corbaloc::{CorbalocFault, read_corbaloc};
 use giop_types::GiopTypes;
+use reference_texts::corbaloc::{CorbalocFault, read_corbaloc};
 use reference_texts::{Ior, ReferenceFault, ior_from_text};
 use std::alloc::Global;
 

@@ -3,9 +3,9 @@
 ghost use Rattle.std.specs.Prelude.{◌≡◌, ◌≤◌, ◌↔◌, [], length, slice_get, IfSome, IfNone, IsTrue, Some};
 ghost use Rattle.type_model.specs.PartNamesNames.{AreApart};
 
+use crate::Name;
 use std::alloc::Global;
 use std::marker::Model;
-use crate::Name;
 
 /// Names in order, of which no two are equal but for the case of their letters.
 #[derive(Drop)]

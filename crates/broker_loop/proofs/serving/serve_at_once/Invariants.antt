@@ -17,6 +17,7 @@ invariant-loop g l = record {
   count : l.progress.count ≡ l.count;
   at_once : l.progress.at_once ≡ l.at_once;
   asked : WereAsked l.idle (g.L.PolledListener.looks l.listener) l.slots.items;
-  going : GoesOn (g.L.PolledListener.ended l.listener) (acts g.S.Servant.says g.S.Servant.after) l.fn.broker.served l.idle l.fn.broker.world.servant
+  going : GoesOn (g.L.PolledListener.ended l.listener) (acts g.S.Servant.says g.S.Servant.after) l.fn.broker.served
+      l.idle l.fn.broker.world.servant
       (g.L.Listener.came l.listener) l.broker.world l.slots.items;
 }

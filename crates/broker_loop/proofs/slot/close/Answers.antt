@@ -9,7 +9,8 @@ use Rattle.broker_loop.proofs.slot.close.Goals as goal
 pub returns-in-Ok-Some : goal.returns-in-Ok-Some
 returns-in-Ok-Some g c =
     let says : Says c.as_slice.result.now Closes = search rules in
-    let h : HasWritten (g.C.Connection.told c.args.connection.now) c.as_slice.result.now c.in-Ok-Some.field-0-0 (g.C.Connection.told c.write.new.self) = search rules in
+    let h : HasWritten (g.C.Connection.told c.args.connection.now) c.as_slice.result.now c.in-Ok-Some.field-0-0
+    (g.C.Connection.told c.write.new.self) = search rules in
     record {
       last = take c.in-Ok-Some.field-0-0 c.as_slice.result.now;
       is = farewell c.as_slice.result.now c.in-Ok-Some.field-0-0 says;

@@ -10,11 +10,13 @@ pub returns-then-idle-eq0-clause-on : goal.returns-then-idle-eq0-clause-on
 returns-then-idle-eq0-clause-on g c = λ before came ended front back going in_time.
     let none : c.args.idle ≡ 0 = search rules in
     unlimited_on (acts g.S.Servant.says g.S.Servant.after) c.args.broker.now.served c.args.idle before came ended
-    c.go_on-course.new.broker.world front c.go_on-course.new.self back c.go_on-course.result (stays c.go_on-course.result) none
+    c.go_on-course.new.broker.world front c.go_on-course.new.self back c.go_on-course.result
+    (stays c.go_on-course.result) none
     (c.go_on-course.ensures.on c.args.idle before came ended front back going in_time)
 
 pub returns-then-idle-eq0-clause-asked : goal.returns-then-idle-eq0-clause-asked
-returns-then-idle-eq0-clause-asked g c = λ asked. c.go_on-course.ensures.asked (g.L.PolledListener.looks c.args.listener.now) asked
+returns-then-idle-eq0-clause-asked g c =
+    λ asked. c.go_on-course.ensures.asked (g.L.PolledListener.looks c.args.listener.now) asked
 
 pub returns-in-Over-clause-on : goal.returns-in-Over-clause-on
 returns-in-Over-clause-on g c = λ before came ended front back going in_time.
@@ -27,13 +29,16 @@ returns-in-Over-clause-on g c = λ before came ended front back going in_time.
     (c.go_on-course.ensures.on c.args.idle before came ended front back going in_time))
 
 pub returns-in-Over-clause-asked : goal.returns-in-Over-clause-asked
-returns-in-Over-clause-asked g c = λ asked. c.go_on-course.ensures.asked (g.L.PolledListener.looks c.args.listener.now) asked
+returns-in-Over-clause-asked g c =
+    λ asked. c.go_on-course.ensures.asked (g.L.PolledListener.looks c.args.listener.now) asked
 
 pub returns-in_default-clause-on : goal.returns-in_default-clause-on
 returns-in_default-clause-on g c = λ before came ended front back going in_time.
     let some : 0 < c.args.idle = search rules in
-    judged_on (acts g.S.Servant.says g.S.Servant.after) c.args.broker.now.served c.args.idle before (g.L.PolledListener.looks c.args.listener.now) came ended
-    c.go_on-course.new.broker.world front c.go_on-course.new.self c.judge.new.slot back c.go_on-course.result c.judge.result some c.in_default.not-Over
+    judged_on (acts g.S.Servant.says g.S.Servant.after) c.args.broker.now.served c.args.idle before
+    (g.L.PolledListener.looks c.args.listener.now) came ended
+    c.go_on-course.new.broker.world front c.go_on-course.new.self c.judge.new.slot back c.go_on-course.result
+    c.judge.result some c.in_default.not-Over
     (c.go_on-course.ensures.on c.args.idle before came ended front back going in_time) c.judge.ensures.judged
 
 pub returns-in_default-clause-asked : goal.returns-in_default-clause-asked

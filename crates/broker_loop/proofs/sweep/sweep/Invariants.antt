@@ -17,8 +17,10 @@ invariant-loop-at g l = record {
   asked : WereAsked l.idle (g.L.PolledListener.looks l.fn.listener) (drop l.at l.slots.items);
   fewer : length l.slots.items ≤ length l.fn.slots.items;
   going : (before : g.row.S.Denot)
-      → GoesOn (g.L.PolledListener.ended l.fn.listener) (acts g.S.Servant.says g.S.Servant.after) l.fn.broker.served l.idle before (g.L.Listener.came l.fn.listener) l.fn.broker.world l.fn.slots.items
-      → GoesOn (g.L.PolledListener.ended l.listener) (acts g.S.Servant.says g.S.Servant.after) l.fn.broker.served l.idle before (g.L.Listener.came l.fn.listener) l.broker.world l.slots.items;
+      → GoesOn (g.L.PolledListener.ended l.fn.listener) (acts g.S.Servant.says g.S.Servant.after) l.fn.broker.served
+      l.idle before (g.L.Listener.came l.fn.listener) l.fn.broker.world l.fn.slots.items
+      → GoesOn (g.L.PolledListener.ended l.listener) (acts g.S.Servant.says g.S.Servant.after) l.fn.broker.served l.idle
+      before (g.L.Listener.came l.fn.listener) l.broker.world l.slots.items;
 }
 
 abbrev pub decreases-loop-at : goal.decreases-loop-at

@@ -6,7 +6,8 @@ use Rattle.broker_sockets.proofs.connections.serve_connections.Goals as goal
 
 pub loop-init : goal.loop-init
 loop-init g c = record {
-  served = none_served (acts g.S.Servant.says g.S.Servant.after) c.args.broker.now.served (g.L.BlockingListener.went c.args.listener.now)
+  served = none_served (acts g.S.Servant.says g.S.Servant.after) c.args.broker.now.served
+      (g.L.BlockingListener.went c.args.listener.now)
       (g.L.Listener.came c.args.listener.now) c.args.broker.now.world.servant c.requires.none;
   alone = c.requires.alone;
   same = refl;
@@ -22,9 +23,11 @@ loop-preserved g c =
     let after = c.serve_next.new.broker.world.servant in
     let Told = g.L.BlockingListener.went c.loop.listener in
     let Told' = g.L.BlockingListener.went c.serve_next.new.listener in
-    let visit = subst (λ served. IsOneMore Told Told' acting served came between came_after after) c.loop.invariant.same c.in_ok-serve_next.ensures.visit in
+    let visit = subst (λ served. IsOneMore Told Told' acting served came between came_after after) c.loop.invariant.same
+    c.in_ok-serve_next.ensures.visit in
     record {
-      served = one_more_served acting c.args.broker.now.served Told Told' c.loop.counter (g.L.Listener.came c.args.listener.now)
+      served = one_more_served acting c.args.broker.now.served Told Told' c.loop.counter
+          (g.L.Listener.came c.args.listener.now)
           c.args.broker.now.world.servant came between came_after after c.loop.invariant.served visit;
       alone = c.in_ok-serve_next.ensures.alone;
       same = c.in_ok-serve_next.ensures.same ∙ c.loop.invariant.same;

@@ -11,10 +11,17 @@ returns-clause-visit g c =
     let acting = acts g.S.Servant.says g.S.Servant.after in
     let before = c.args.broker.now in
     let after = c.serve_stream-end.new.broker.world in
-    let from = ends (g.L.Reader.Input.left c.in-Ok.reader) (g.L.Writer.Output.written c.in-Ok.writer) (g.L.Reader.Input.failure c.in-Ok.reader) (g.L.Writer.Output.failure c.in-Ok.writer) in
-    let to = ends (g.L.Reader.Input.left c.serve_stream-end.new.reader) (g.L.Writer.Output.written c.serve_stream-end.new.writer) (g.L.Reader.Input.failure c.serve_stream-end.new.reader) (g.L.Writer.Output.failure c.serve_stream-end.new.writer) in
-    let last = ends (g.L.Reader.Input.left c.serve_stream-end.new.reader) (g.L.Writer.Output.written c.shut_behind.new.writer) (g.L.Reader.Input.failure c.serve_stream-end.new.reader) (g.L.Writer.Output.failure c.shut_behind.new.writer) in
-    let same : last ≡ to = same_ends (g.L.Reader.Input.left c.serve_stream-end.new.reader) (g.L.Writer.Output.written c.serve_stream-end.new.writer)
+    let from = ends (g.L.Reader.Input.left c.in-Ok.reader) (g.L.Writer.Output.written c.in-Ok.writer)
+    (g.L.Reader.Input.failure c.in-Ok.reader) (g.L.Writer.Output.failure c.in-Ok.writer) in
+    let to = ends (g.L.Reader.Input.left c.serve_stream-end.new.reader)
+    (g.L.Writer.Output.written c.serve_stream-end.new.writer)
+    (g.L.Reader.Input.failure c.serve_stream-end.new.reader)
+    (g.L.Writer.Output.failure c.serve_stream-end.new.writer) in
+    let last = ends (g.L.Reader.Input.left c.serve_stream-end.new.reader)
+    (g.L.Writer.Output.written c.shut_behind.new.writer) (g.L.Reader.Input.failure c.serve_stream-end.new.reader)
+    (g.L.Writer.Output.failure c.shut_behind.new.writer) in
+    let same : last ≡ to = same_ends (g.L.Reader.Input.left c.serve_stream-end.new.reader)
+    (g.L.Writer.Output.written c.serve_stream-end.new.writer)
     (g.L.Writer.Output.written c.shut_behind.new.writer) (g.L.Reader.Input.failure c.serve_stream-end.new.reader)
     (g.L.Writer.Output.failure c.serve_stream-end.new.writer) (g.L.Writer.Output.failure c.shut_behind.new.writer)
     c.shut_behind.ensures.written c.shut_behind.ensures.failure in
@@ -24,6 +31,7 @@ returns-clause-visit g c =
       came_is = search rules;
       gone = λ all told. c.hand_back.ensures.went all (c.accept.ensures.went all told);
       seen = seen_of acting before.served before.world from c.serve_stream-end.result after last c.requires
-          (subst (λ (t : Ends). IsServed acting before.served 1 4294967296 before.world from c.serve_stream-end.result after t) (sym same)
+          (subst (λ (t : Ends). IsServed acting before.served 1 4294967296 before.world from c.serve_stream-end.result
+          after t) (sym same)
           c.serve_stream-end.ensures.served);
     }

@@ -8,8 +8,10 @@ returns-clause-done g c =
     let told = g.L.PolledListener.ended c.serve_by.new.listener in
     let came = g.L.Listener.came c.serve_by.new.listener in
     let word = c.args.options.now.object.now in
-    subst (λ (n : ℕ). OnOk c.serve_by.result (IsDoneTogether told c.args.table.model word (n * 1000) came)) c.from-idle.ensures
-    (together_on_ok c.args.table.model word told c.serve_by.result c.in_ok-broker.broker (c.from-idle.result * 1000) came
+    subst (λ (n : ℕ). OnOk c.serve_by.result (IsDoneTogether told c.args.table.model word (n * 1000) came))
+    c.from-idle.ensures
+    (together_on_ok c.args.table.model word told c.serve_by.result c.in_ok-broker.broker (c.from-idle.result * 1000)
+    came
     c.serve_by.new.broker.world.servant c.in_ok-broker.ensures.made c.serve_by.ensures.done)
 
 pub returns-clause-refused : goal.returns-clause-refused
@@ -18,7 +20,9 @@ returns-clause-refused g c =
     (has_object c.args.table.model c.args.options.now.object.now c.in_ok-broker.broker c.in_ok-broker.ensures.made)
 
 pub returns-clause-silent : goal.returns-clause-silent
-returns-clause-silent g c = none_of_object c.args.table.model c.args.options.now.object.now _ c.serve_by.result c.serve_by.ensures.later
+returns-clause-silent g c =
+    none_of_object c.args.table.model c.args.options.now.object.now _ c.serve_by.result c.serve_by.ensures.later
 
 pub returns-clause-deaf : goal.returns-clause-deaf
-returns-clause-deaf g c = none_of_object c.args.table.model c.args.options.now.object.now _ c.serve_by.result c.serve_by.ensures.later
+returns-clause-deaf g c = none_of_object c.args.table.model c.args.options.now.object.now _ c.serve_by.result
+    c.serve_by.ensures.later

@@ -22,8 +22,10 @@ returns-in-Ok-Replies g c =
     omega (arith, c.split_at.ensures.front_len, c.in-Ok.ensures.within, c.wanted.ensures, c.clamp-room.ensures) in
     let read = read_on id before now after stream.run stream.rest.items piece count (told c.in-Ok-Replies.field-0)
     c.loop-count.invariant.going gives c.in-Ok-Replies.ensures few in
-    outcome_in id c.args.reads before after piece _ count c.answer_in.result (g.I.Input.failure c.read_within.new.reader)
-    (subst (λ (h : Said). ReadOn id before piece count (told h) after) c.in-Ok-Replies.field-0-is read) c.answer_in.ensures
+    outcome_in id c.args.reads before after piece _ count c.answer_in.result
+    (g.I.Input.failure c.read_within.new.reader)
+    (subst (λ (h : Said). ReadOn id before piece count (told h) after) c.in-Ok-Replies.field-0-is read)
+    c.answer_in.ensures
 
 pub returns-in-Ok-Breaks : goal.returns-in-Ok-Breaks
 returns-in-Ok-Breaks g c =

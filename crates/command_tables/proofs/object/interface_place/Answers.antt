@@ -13,4 +13,5 @@ returns-then-eq-clause-named c =
     let same : bytes_eq interface.name c.args.name.now ≡ true =
     ap (λ n. bytes_eq n c.args.name.now) (sym named) ∙ sym c.eq.ensures ∙ c.if-eq.true in
     sym (c.loop-place.invariant ∙ first_place c.args.name.now c.args.interfaces.now c.loop-place.place interface
-    (slice_get_read c.args.interfaces.now _ c.loop-place.place interface refl (search rules) c.index-interfaces-place.is) same)
+    (slice_get_read c.args.interfaces.now _ c.loop-place.place interface refl (search rules)
+    c.index-interfaces-place.is) same)

@@ -10,7 +10,9 @@ pub returns-in-Err-clause-refused : goal.returns-in-Err-clause-refused
 returns-in-Err-clause-refused c =
     let interfaces = c.interfaces.ensures.value ∙ ap (λ (m : Parts). m.interfaces) (c.model.ensures.value
     ∙ ap (λ (t : TableParts). t.model) c.table.ensures.value) in
-    refused c.args.table.now.model (reference_parts_of c.args.wanted.now) c.in-Some.key.now c.in-Some.name.now c.as_str-id.result.now
+    refused c.args.table.now.model (reference_parts_of c.args.wanted.now) c.in-Some.key.now c.in-Some.name.now
+    c.as_str-id.result.now
     c.in-Some-interface_named.interface.now c.in-Err.fault c.from.result c.from.ensures c.in-Some.ensures.found
-    (ap (λ (l : List Interface). interface_named c.in-Some.name.now l) (sym interfaces) ∙ sym c.in-Some-interface_named.ensures)
+    (ap (λ (l : List Interface). interface_named c.in-Some.name.now l) (sym interfaces)
+    ∙ sym c.in-Some-interface_named.ensures)
     c.as_str-id.ensures c.in-Err.ensures.refused

@@ -10,7 +10,10 @@ use Rattle.command_texts.proofs.marshal.answer.Goals as goal
 pub returns-in_ok-octets-in-Decode-clause-err : goal.returns-in_ok-octets-in-Decode-clause-err
 returns-in_ok-octets-in-Decode-clause-err c =
     let graph = c.args.table.now.model.graph in
-    subst (λ (way : Way). IfErr c.decode.result (IsRefusalAt way c.args.names.now graph c.args.node (ask_of c.args.request.now c.args.input.now))) (sym c.in-Decode.is)
+    subst (λ (way : Way). IfErr c.decode.result
+    (IsRefusalAt way c.args.names.now graph c.args.node (ask_of c.args.request.now c.args.input.now)))
+    (sym c.in-Decode.is)
     (run_refused string_bytes Decode c.args.names.now graph c.args.node (ask_of c.args.request.now c.args.input.now)
     (HasNoTape graph c.args.request.now.order c.args.node c.args.request.now.pos c.as_slice.result.now)
-    (λ none. record { octets = c.as_slice.result.now; digits_are = search rules; none = none }) c.decode.result c.decode.ensures.err)
+    (λ none. record { octets = c.as_slice.result.now; digits_are = search rules; none = none }) c.decode.result
+    c.decode.ensures.err)

@@ -10,5 +10,6 @@ returns-clause-line c =
 
 pub returns-clause-refused : goal.returns-clause-refused
 returns-clause-refused c =
-    refusal_of string_bytes c.args.table.now c.args.names.now (ask_of c.args.request.now c.args.input.now) c.in-Some.node
+    refusal_of string_bytes c.args.table.now c.args.names.now (ask_of c.args.request.now c.args.input.now)
+    c.in-Some.node
     ((c.in-Some.ensures.found c.in-Some.node).0 refl) c.answer.result c.answer.ensures.err

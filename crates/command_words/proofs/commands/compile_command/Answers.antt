@@ -8,4 +8,5 @@ returns c =
     IfOk-weaker c.arg-3.result _ _ (λ command h. h.shape c.explain_flag.ensures.local
     ∙ ap₂ with_rule (c.in_ok-arg-2.ensures.shape c.output_option.ensures.local
     ∙ ap₂ with_rule (c.in_ok-arg.ensures.shape c.wanted.ensures.local
-    ∙ ap₂ with_rule c.new.ensures.app c.wanted.ensures.rule) c.output_option.ensures.rule) c.explain_flag.ensures.rule) c.arg-3.ensures
+    ∙ ap₂ with_rule c.new.ensures.app c.wanted.ensures.rule) c.output_option.ensures.rule) c.explain_flag.ensures.rule)
+    c.arg-3.ensures

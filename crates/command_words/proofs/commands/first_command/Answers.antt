@@ -18,6 +18,8 @@ returns c =
     ap app_of_fields c.after_help.ensures ∙ (ap app_of_fields c.about-2.ensures ∙ c.in_ok-compile.ensures) in
     let none_is : app_of c.subcommand_required.result ≡ required (versioned (new_app (codes "idlc"))) =
     ap app_of_fields c.subcommand_required.ensures
-    ∙ ap required (ap app_of_fields c.version.ensures ∙ ap versioned (ap app_of_fields c.about.ensures ∙ c.new.ensures.app)) in
-    IfOk-weaker c.subcommand.result _ _ (λ program h. h.shape (no_globals _ _ _ _ (ap (λ (a : App). a.top.is_plain) compile_is))
+    ∙ ap required (ap app_of_fields c.version.ensures
+    ∙ ap versioned (ap app_of_fields c.about.ensures ∙ c.new.ensures.app)) in
+    IfOk-weaker c.subcommand.result _ _
+    (λ program h. h.shape (no_globals _ _ _ _ (ap (λ (a : App). a.top.is_plain) compile_is))
     ∙ ap₂ with_subcommand none_is (ap (λ (a : App). a.top) compile_is)) c.subcommand.ensures

@@ -10,7 +10,8 @@ taking rule parser = record rule { parser = parser }
 pub returns-clause-rule : goal.returns-clause-rule
 returns-clause-rule c =
     let pos = c.value_parser-2.ensures in
-    ap rule_of pos.others ∙ ap₂ taking c.option.ensures.rule (pos.given.1 ∙ ap (λ (p : ValueParser). Some p) (pos.given.2 ∙ c.value_parser.ensures))
+    ap rule_of pos.others ∙ ap₂ taking c.option.ensures.rule
+    (pos.given.1 ∙ ap (λ (p : ValueParser). Some p) (pos.given.2 ∙ c.value_parser.ensures))
 
 pub returns-clause-local : goal.returns-clause-local
 returns-clause-local c = ap (λ (a : Arg). a.global) c.value_parser-2.ensures.others ∙ c.option.ensures.local

@@ -10,5 +10,6 @@ returns c =
     ∙ ap₂ with_rule (c.in_ok-arg-3.ensures.shape c.connections_option.ensures.local
     ∙ ap₂ with_rule (c.in_ok-arg-2.ensures.shape c.object_option.ensures.local
     ∙ ap₂ with_rule (c.in_ok-arg.ensures.shape c.port_option.ensures.local
-    ∙ ap₂ with_rule c.in_ok-table_command.ensures c.port_option.ensures.rule) c.object_option.ensures.rule) c.connections_option.ensures.rule)
+    ∙ ap₂ with_rule c.in_ok-table_command.ensures c.port_option.ensures.rule) c.object_option.ensures.rule)
+    c.connections_option.ensures.rule)
     c.at_once_option.ensures.rule) c.idle_option.ensures.rule) c.arg-5.ensures

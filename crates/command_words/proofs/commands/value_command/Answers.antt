@@ -10,5 +10,6 @@ returns c =
     ∙ ap₂ with_rule (c.in_ok-arg-3.ensures.shape c.order_word.ensures.local
     ∙ ap₂ with_rule (c.in_ok-arg-2.ensures.shape c.wanted-2.ensures.local
     ∙ ap₂ with_rule (c.in_ok-arg.ensures.shape c.wanted.ensures.local
-    ∙ ap₂ with_rule c.new.ensures.app c.wanted.ensures.rule) c.wanted-2.ensures.rule) c.order_word.ensures.rule) c.pos_word.ensures.rule)
+    ∙ ap₂ with_rule c.new.ensures.app c.wanted.ensures.rule) c.wanted-2.ensures.rule) c.order_word.ensures.rule)
+    c.pos_word.ensures.rule)
     c.explain_flag.ensures.rule) c.arg-5.ensures

@@ -13,6 +13,9 @@ returns c =
     ap app_of_fields c.about.ensures ∙ c.in_ok-encode.ensures in
     let decode_is : app_of c.about-2.result ≡ decode_app (Names c.args.orders) =
     ap app_of_fields c.about-2.ensures ∙ c.in_ok-decode.ensures in
-    IfOk-weaker c.subcommand-2.result _ _ (λ program h. h.shape (no_globals _ _ _ _ (ap (λ (a : App). a.top.is_plain) decode_is))
-    ∙ ap₂ with_subcommand (c.in_ok-subcommand.ensures.shape (no_globals _ _ _ _ (ap (λ (a : App). a.top.is_plain) encode_is))
-    ∙ ap₂ with_subcommand c.in_ok-first.ensures (ap (λ (a : App). a.top) encode_is)) (ap (λ (a : App). a.top) decode_is)) c.subcommand-2.ensures
+    IfOk-weaker c.subcommand-2.result _ _
+    (λ program h. h.shape (no_globals _ _ _ _ (ap (λ (a : App). a.top.is_plain) decode_is))
+    ∙ ap₂ with_subcommand (c.in_ok-subcommand.ensures.shape
+    (no_globals _ _ _ _ (ap (λ (a : App). a.top.is_plain) encode_is))
+    ∙ ap₂ with_subcommand c.in_ok-first.ensures (ap (λ (a : App). a.top) encode_is))
+    (ap (λ (a : App). a.top) decode_is)) c.subcommand-2.ensures

@@ -24,6 +24,8 @@ returns c ask tells =
     let operation = found_is found (codes "OP") _ ask.operation c.in_ok-get_str-3.ensures tells.operation in
     let value = c.get_str-4.ensures ∙ first_value-rows found (codes "VALUE") ∙ tells.value in
     let order = order_is found ask.order c.order_in-order.result tells.order c.order_in-order.ensures in
-    let wait = number_is found (codes "wait") 30 ask.wait c.number_in-wait.result tells.wait c.number_in-wait.ensures.some c.number_in-wait.ensures.none in
-    let repeat = number_is found (codes "repeat") 1 ask.repeat c.number_in-repeat.result tells.repeat c.number_in-repeat.ensures.some c.number_in-repeat.ensures.none in
+    let wait = number_is found (codes "wait") 30 ask.wait c.number_in-wait.result tells.wait
+    c.number_in-wait.ensures.some c.number_in-wait.ensures.none in
+    let repeat = number_is found (codes "repeat") 1 ask.repeat c.number_in-repeat.result tells.repeat
+    c.number_in-repeat.ensures.some c.number_in-repeat.ensures.none in
     rw (table, reference, operation, value, order, wait, repeat) refl

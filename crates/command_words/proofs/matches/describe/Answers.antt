@@ -3,7 +3,7 @@ use Rattle.clap.specs.Words.{found_of}
 use Rattle.clap.proofs.WalkLemmas.{first_value-rows}
 use Rattle.command_words.specs.Ask.{Description}
 use Rattle.command_words.proofs.Inputs.{not_none}
-use Rattle.command_words.proofs.Requests.{same_some}
+use Rattle.command_words.proofs.FoundRequests.{same_some}
 use Rattle.command_words.proofs.matches.describe.Goals as goal
 
 pub returns-in_err-get_str : goal.returns-in_err-get_str

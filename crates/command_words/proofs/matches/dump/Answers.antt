@@ -14,5 +14,6 @@ returns c ask tells =
     let table = found_is found (codes "T") _ ask.table c.in_ok-get_str.ensures tells.table in
     let file = c.get_str-2.ensures ∙ first_value-rows found (codes "FILE") ∙ tells.file in
     let back = c.get_str-3.ensures ∙ first_value-rows found (codes "BACK") ∙ tells.back in
-    let follow = flag_is found (codes "follow") ask.follow c.get_flag.result tells.follow c.get_flag.ensures.value c.get_flag.ensures.other in
+    let follow = flag_is found (codes "follow") ask.follow c.get_flag.result tells.follow c.get_flag.ensures.value
+    c.get_flag.ensures.other in
     rw (table, file, back, follow) refl

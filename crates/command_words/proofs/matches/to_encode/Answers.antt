@@ -8,7 +8,8 @@ pub returns-in-Some-None-clause-asked : goal.returns-in-Some-None-clause-asked
 returns-in-Some-None-clause-asked c ask way_is tells =
     let found = found_of c.args.words.now in
     let same = by_tape (rows_of found) ask.value.way ask.form ask.value.input c.in-Some-None.hex.now way_is tells.input
-    (sym (first_value-rows found (codes "HEX")) ∙ sym c.in-Some-None.ensures) (sym (first_value-rows found (codes "text")) ∙ sym c.in-Some-None.ensures') in
+    (sym (first_value-rows found (codes "HEX")) ∙ sym c.in-Some-None.ensures)
+    (sym (first_value-rows found (codes "text")) ∙ sym c.in-Some-None.ensures') in
     c.value.ensures ask (sym way_is) same.0 same.1 tells.place
 
 pub returns-in-Some-None-clause-unclear : goal.returns-in-Some-None-clause-unclear
@@ -21,8 +22,10 @@ returns-in-Some-None-clause-unclear c same =
 pub returns-in-None-Some-clause-asked : goal.returns-in-None-Some-clause-asked
 returns-in-None-Some-clause-asked c ask way_is tells =
     let found = found_of c.args.words.now in
-    let same = by_words (rows_of found) ask.value.way ask.form ask.value.input c.in-None-Some.text.now way_is tells.input
-    (sym (first_value-rows found (codes "HEX")) ∙ sym c.in-None-Some.ensures) (sym (first_value-rows found (codes "text")) ∙ sym c.in-None-Some.ensures') in
+    let same = by_words (rows_of found) ask.value.way ask.form ask.value.input c.in-None-Some.text.now way_is
+    tells.input
+    (sym (first_value-rows found (codes "HEX")) ∙ sym c.in-None-Some.ensures)
+    (sym (first_value-rows found (codes "text")) ∙ sym c.in-None-Some.ensures') in
     c.value-in-None-Some.ensures ask (sym way_is) same.0 same.1 tells.place
 
 pub returns-in-None-Some-clause-unclear : goal.returns-in-None-Some-clause-unclear
@@ -37,11 +40,13 @@ returns-in-Some-Some-clause-asked c ask way_is tells =
     let found = found_of c.args.words.now in
     let hex = sym (first_value-rows found (codes "HEX")) ∙ sym c.in-Some-Some.ensures in
     let text = sym (first_value-rows found (codes "text")) ∙ sym c.in-Some-Some.ensures' in
-    is_clear (rows_of found) ask.value.way ask.form ask.value.input way_is tells.input (ap is_some hex ∙ sym (ap is_some text))
+    is_clear (rows_of found) ask.value.way ask.form ask.value.input way_is tells.input
+    (ap is_some hex ∙ sym (ap is_some text))
 
 pub returns-in-None-None-clause-asked : goal.returns-in-None-None-clause-asked
 returns-in-None-None-clause-asked c ask way_is tells =
     let found = found_of c.args.words.now in
     let hex = sym (first_value-rows found (codes "HEX")) ∙ sym c.in-None-None.ensures in
     let text = sym (first_value-rows found (codes "text")) ∙ sym c.in-None-None.ensures' in
-    is_clear (rows_of found) ask.value.way ask.form ask.value.input way_is tells.input (ap is_some hex ∙ sym (ap is_some text))
+    is_clear (rows_of found) ask.value.way ask.form ask.value.input way_is tells.input
+    (ap is_some hex ∙ sym (ap is_some text))

@@ -13,4 +13,5 @@ returns-in-Err-clause-refused c = stopped c.args.levels c.args.cursor.now c.in-E
 
 pub returns-then-not-is_at_end-clause-refused : goal.returns-then-not-is_at_end-clause-refused
 returns-then-not-is_at_end-clause-refused c =
-    left_over c.args.levels c.args.cursor.now _ _ c.in-Ok.ensures.way (sym c.is_at_end.ensures.over ∙ c.if-not-is_at_end.true)
+    left_over c.args.levels c.args.cursor.now _ _ c.in-Ok.ensures.way
+    (sym c.is_at_end.ensures.over ∙ c.if-not-is_at_end.true)

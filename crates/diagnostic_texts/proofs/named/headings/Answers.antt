@@ -10,4 +10,5 @@ loop-number-init c = c.new-lines.ensures.bytes
 pub loop-number-preserved : goal.loop-number-preserved
 unfolding lines_below
 loop-number-preserved c =
-    rw add-one (c.in_ok-push_line.ensures ∙ ap (λ lines. lines ++ line_of (heading c.loop-number.number)) c.loop-number.invariant)
+    rw add-one (c.in_ok-push_line.ensures
+    ∙ ap (λ lines. lines ++ line_of (heading c.loop-number.number)) c.loop-number.invariant)

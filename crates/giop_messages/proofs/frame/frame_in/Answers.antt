@@ -22,4 +22,5 @@ returns c =
     let e : head_in c.args.octets.now ≡ Ok c.in-Ok.head = sym c.read.ensures ∙ c.in-Ok.is in
     let kept = sym c.breaks.ensures ∙ c.if-breaks.false in
     let same = sym c.is_other.ensures ∙ c.if-is_other.false in
-    whole_front (option_map (λ r. r.now) c.args.run) c.args.octets.now c.in-Ok.head (omega (arith, c.if-octets-lt-HEAD_LEN.false)) e kept (omega (arith, c.if-octets-len.false)) same
+    whole_front (option_map (λ r. r.now) c.args.run) c.args.octets.now c.in-Ok.head
+    (omega (arith, c.if-octets-lt-HEAD_LEN.false)) e kept (omega (arith, c.if-octets-len.false)) same

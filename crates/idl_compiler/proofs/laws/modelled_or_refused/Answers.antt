@@ -18,5 +18,6 @@ returns c = λ definitions model fault m f. by definitions model fault m f
     by definitions model (Names t) m f = let named = m.named in absurd cc
     by definitions model (Types t) m f =
         let same = c.names_are_one.ensures definitions m.names f.names m.named f.named in
-        absurd (c.shown_or_refused.ensures definitions f.names model t (subst (λ n. Shows definitions n model) same m.shows) f.is)
+        absurd (c.shown_or_refused.ensures definitions f.names model t
+        (subst (λ n. Shows definitions n model) same m.shows) f.is)
     by definitions model NoMemory m f = refl

@@ -17,12 +17,15 @@ returns c = λ source fault settled refused told is. by source fault settled ref
         let names = c.names_are_of_the_shape.ensures has.definitions is.definitions shape in
         told (c.modelled_or_refused.ensures has.definitions is.table.model fault
         (same_model has.definitions is.definitions is.table.model names
-        (λ entries. c.types_are_of_the_shape.ensures entries has.definitions is.definitions shape) is.table.shown) has.is)
+        (λ entries. c.types_are_of_the_shape.ensures entries has.definitions is.definitions shape) is.table.shown)
+        has.is)
 
     by : (source : List ℕ) (fault : CompileFault) (settled : Settled)
         → IsRefused source fault → fault ≢ NoMemory → IsCompiled source settled → ⊥
-    by source (Tokens f) settled refused told is = c.text_or_refused.ensures.tokens source is.definitions f refused is.text
-    by source (Grammar f) settled refused told is = c.text_or_refused.ensures.grammar source is.definitions f refused is.text
+    by source (Tokens f) settled refused told is =
+        c.text_or_refused.ensures.tokens source is.definitions f refused is.text
+    by source (Grammar f) settled refused told is =
+        c.text_or_refused.ensures.grammar source is.definitions f refused is.text
     by source (Names f) settled refused told is = of_definitions source (Names f) settled refused told is
     by source (Types f) settled refused told is = of_definitions source (Types f) settled refused told is
     by source NoMemory settled refused told is = absurd (told refl)

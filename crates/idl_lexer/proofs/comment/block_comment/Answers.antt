@@ -16,7 +16,8 @@ behind s t i e = ap (λ u. slice_index u i) e ∙ get_or-drop 2 s i 0
 tested : (s : List ℕ) (k : ℕ) → slice_index s (k + 2) ≡ 42 → slice_index s (k + 2 + 1) ≡ 47 → closes_at s (k + 2) ≡ true
 tested s k a b = grind (arith, nat_tests)
 
-tells : (s : List ℕ) (k : ℕ) → closes_at s (k + 2) ≡ true → (slice_index s (k + 2) ≡ 42) × (slice_index s (k + 2 + 1) ≡ 47)
+tells : (s : List ℕ) (k : ℕ) → closes_at s (k + 2) ≡ true → (slice_index s (k + 2) ≡ 42)
+    × (slice_index s (k + 2 + 1) ≡ 47)
 tells s k h = grind (arith, nat_tests)
 
 found : (s t : List ℕ) (k : ℕ) → t ≡ drop 2 s → OccursAt t close k → closes_at s (k + 2) ≡ true
@@ -25,7 +26,8 @@ found s t k e o =
     (ap (slice_index s) (omega arith) ∙ sym (behind s t (k + 0) e) ∙ o.reads 0 (omega arith))
     (ap (slice_index s) (omega arith) ∙ sym (behind s t (k + 1) e) ∙ o.reads 1 (omega arith))
 
-both : (t : List ℕ) (k : ℕ) → slice_index t k ≡ 42 → slice_index t (k + 1) ≡ 47 → (j : ℕ) → j < 2 → slice_index t (k + j) ≡ slice_index close j
+both : (t : List ℕ) (k : ℕ) → slice_index t k ≡ 42 → slice_index t (k + 1) ≡ 47 → (j : ℕ) → j < 2
+    → slice_index t (k + j) ≡ slice_index close j
 both t k a b zero lt = ap (slice_index t) (omega arith) ∙ a
 both t k a b (suc zero) lt = b
 both t k a b (suc (suc j)) lt = absurd (omega arith)
@@ -53,7 +55,8 @@ returns-in-Some-clause-form c =
       second = c.requires.second;
       inner = c.in-Some.inner;
       closes = found whole body _ c.split_at.ensures.back occurs;
-      before = λ k lt. absent whole body k c.split_at.ensures.back (omega (arith, occurs.fits)) (first.before k (omega arith) lt);
+      before = λ k lt. absent whole body k c.split_at.ensures.back (omega (arith, occurs.fits))
+          (first.before k (omega arith) lt);
       length = refl;
     }
 

@@ -26,7 +26,8 @@ record Line (before s text : List ℕ) (n : ℕ) : Type 0 where
 whole : (before s text : List ℕ) (n : ℕ) → Line before s text n → text ≡ line_of s
 whole before s text n l = l.front ∙ ap (λ k. take k s) l.counted
 
-kept : (before s text : List ℕ) (n : ℕ) → Line before s text n → IsKept text → IsLexeme before s (record { kind = Some Pragma; len = length text })
+kept : (before s text : List ℕ) (n : ℕ) → Line before s text n → IsKept text
+    → IsLexeme before s (record { kind = Some Pragma; len = length text })
 kept before s text n l form =
     let same : text ≡ line_of s = whole before s text n l in record {
       long = omega (arith, l.counted, l.front_len, not_empty s l.hash);
@@ -34,7 +35,8 @@ kept before s text n l form =
       form = record { fresh = l.fresh; ascii = rw same at l.ascii; form = rw same at form; whole = ap length same };
     }
 
-skipped : (before s text : List ℕ) (n : ℕ) → Line before s text n → IsSkipped text → IsLexeme before s (record { kind = None; len = length text })
+skipped : (before s text : List ℕ) (n : ℕ) → Line before s text n → IsSkipped text
+    → IsLexeme before s (record { kind = None; len = length text })
 skipped before s text n l form =
     let same : text ≡ line_of s = whole before s text n l in record {
       long = omega (arith, l.counted, l.front_len, not_empty s l.hash);

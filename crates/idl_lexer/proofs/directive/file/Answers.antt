@@ -12,16 +12,23 @@ pub loop-at-preserved : goal.loop-at-preserved
 loop-at-preserved c =
     elim c.if-octets-at-eq92.branch [
       | then-octets-at-eq92 w ↦ record {
-        read = hidden c.loop-at.at _ c.loop-at.invariant.read w.if-octets-at-eq92.true (ap (λ k. c.loop-at.at + k) w.at-is);
-        left = λ rest f. rw w.at-is (behind_two c.args.octets.now f.last c.loop-at.at f.closes w.if-octets-at-eq92.true (c.loop-at.invariant.left rest f));
+        read = hidden c.loop-at.at _ c.loop-at.invariant.read w.if-octets-at-eq92.true
+            (ap (λ k. c.loop-at.at + k) w.at-is);
+        left = λ rest f. rw w.at-is
+            (behind_two c.args.octets.now f.last c.loop-at.at f.closes w.if-octets-at-eq92.true
+            (c.loop-at.invariant.left rest f));
       }
       | else-octets-at-eq92 w ↦ record {
-        read = plain c.loop-at.at _ c.loop-at.invariant.read c.if-octets-at-ne34.true w.if-octets-at-eq92.false (ap (λ k. c.loop-at.at + k) w.at-is);
-        left = λ rest f. rw w.at-is (behind_one c.args.octets.now f.last c.loop-at.at f.closes c.if-octets-at-ne34.true w.if-octets-at-eq92.false (c.loop-at.invariant.left rest f));
+        read = plain c.loop-at.at _ c.loop-at.invariant.read c.if-octets-at-ne34.true w.if-octets-at-eq92.false
+            (ap (λ k. c.loop-at.at + k) w.at-is);
+        left = λ rest f. rw w.at-is
+            (behind_one c.args.octets.now f.last c.loop-at.at f.closes c.if-octets-at-ne34.true
+            w.if-octets-at-eq92.false (c.loop-at.invariant.left rest f));
       }
     ]
 
-same_rest : (s rest other : List ℕ) (at : ℕ) → slice_index s at ≡ 34 → rest ≡ drop (at + 1) s → (f : IsFile s other) → IsRest s f.last at → other ≡ rest
+same_rest : (s rest other : List ℕ) (at : ℕ) → slice_index s at ≡ 34 → rest ≡ drop (at + 1) s → (f : IsFile s other)
+    → IsRest s f.last at → other ≡ rest
 same_rest s rest other at quote cut f left =
     f.rest ∙ sym (ap (λ k. drop (k + 1) s) (at_quote s f.last at quote left)) ∙ sym cut
 

@@ -10,6 +10,8 @@ pub returns : goal.returns
 returns c =
     let octets = c.args.octets.now in
     let found : c.position-first.result ≡ position (λ o. not (not (is_word o))) octets =
-    position_from_yields_List (λ o. not (not (is_word o))) _ _ c.position-first.result c.position-first.ensures.ran (YieldsList-from_slice _ c.iter.ensures.rest) (λ x b q k. search (rules, tests, not_not)) in
+    position_from_yields_List (λ o. not (not (is_word o))) _ _ c.position-first.result c.position-first.ensures.ran
+    (YieldsList-from_slice _ c.iter.ensures.rest) (λ x b q k. search (rules, tests, not_not)) in
     c.split_at.ensures.back
-    ∙ ap (λ n. drop n octets) (c.unwrap_or.ensures ∙ ap (λ r. unwrap_or r (length octets)) found ∙ run-position (λ o. not (is_word o)) octets)
+    ∙ ap (λ n. drop n octets) (c.unwrap_or.ensures ∙ ap (λ r. unwrap_or r (length octets)) found
+    ∙ run-position (λ o. not (is_word o)) octets)

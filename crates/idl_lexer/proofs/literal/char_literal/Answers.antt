@@ -9,9 +9,11 @@ use Rattle.idl_lexer.proofs.Characters.{same_len}
 use Rattle.idl_lexer.proofs.literal.char_literal.Goals as goal
 use Rattle.idl_lexer.proofs.literal.char_literal.Goals.{then-len-inner+else-inner-len-eq39, else-len-inner}
 
-made : (s inner : List ℕ) (len v : ℕ) → slice_index s 0 ≡ 39 → inner ≡ drop 1 s → IsCharacter 39 inner len v → slice_index inner len ≡ 39 → IsCharLiteral s (len + 2)
+made : (s inner : List ℕ) (len v : ℕ) → slice_index s 0 ≡ 39 → inner ≡ drop 1 s → IsCharacter 39 inner len v
+    → slice_index inner len ≡ 39 → IsCharLiteral s (len + 2)
 made s inner len v opens behind char closes =
-    let after : slice_index s (1 + len) ≡ 39 = sym (get_or_after_one s len 0) ∙ ap (λ t. slice_index t len) (sym behind) ∙ closes in record {
+    let after : slice_index s (1 + len) ≡ 39 = sym (get_or_after_one s len 0) ∙ ap (λ t. slice_index t len) (sym behind)
+    ∙ closes in record {
       opens = opens;
       value = v;
       inner = len;
@@ -21,16 +23,20 @@ made s inner len v opens behind char closes =
     }
 
 pub returns-in-Ok-clause-form : goal.returns-in-Ok-clause-form
-returns-in-Ok-clause-form c = made c.args.octets.now _ _ _ c.requires c.split_at.ensures.back c.in-Ok.ensures.form c.if-inner-len-eq39.true
+returns-in-Ok-clause-form c =
+    made c.args.octets.now _ _ _ c.requires c.split_at.ensures.back c.in-Ok.ensures.form c.if-inner-len-eq39.true
 
 -- what a character literal has behind its quote
-behind : (s inner : List ℕ) (n : ℕ) → inner ≡ drop 1 s → (t : IsCharLiteral s n) → IsCharacter 39 inner t.inner t.value × (slice_index inner t.inner ≡ 39)
+behind : (s inner : List ℕ) (n : ℕ) → inner ≡ drop 1 s → (t : IsCharLiteral s n) → IsCharacter 39 inner t.inner t.value
+    × (slice_index inner t.inner ≡ 39)
 behind s inner n cut t =
-    let closes : slice_index (drop 1 s) t.inner ≡ 39 = get_or_after_one s t.inner 0 ∙ ap (slice_index s) (omega arith) ∙ t.closes in
+    let closes : slice_index (drop 1 s) t.inner ≡ 39 = get_or_after_one s t.inner 0 ∙ ap (slice_index s) (omega arith)
+    ∙ t.closes in
     (rw cut t.character, rw cut closes)
 
 -- a literal has its closing quote behind the character that is read
-closed : (s inner : List ℕ) (n len v : ℕ) → inner ≡ drop 1 s → IsCharacter 39 inner len v → IsCharLiteral s n → slice_index inner len ≡ 39
+closed : (s inner : List ℕ) (n len v : ℕ) → inner ≡ drop 1 s → IsCharacter 39 inner len v → IsCharLiteral s n
+    → slice_index inner len ≡ 39
 closed s inner n len v cut char t =
     let there = behind s inner n cut t in
     ap (slice_index inner) (same_len 39 39 inner len t.inner v t.value char there.0) ∙ there.1
@@ -38,7 +44,8 @@ closed s inner n len v cut char t =
 pub returns-in-Ok-2-clause-refused : goal.returns-in-Ok-2-clause-refused
 returns-in-Ok-2-clause-refused c n t =
     let inner = c.split_at.result.1.now in
-    let quote : slice_index inner c.in-Ok.len ≡ 39 = closed c.args.octets.now inner n c.in-Ok.len _ c.split_at.ensures.back c.in-Ok.ensures.form t in
+    let quote : slice_index inner c.in-Ok.len ≡ 39 =
+    closed c.args.octets.now inner n c.in-Ok.len _ c.split_at.ensures.back c.in-Ok.ensures.form t in
     elim c.if-len-inner.branch [
       | then-len-inner+else-inner-len-eq39 w ↦ w.if-inner-len-eq39.false quote
       | else-len-inner w ↦ omega (arith, quote, get_or_past inner c.in-Ok.len 0 w.if-len-inner.false)
@@ -53,10 +60,14 @@ returns-in-Err-clause-refused c n t =
 behind_two : (s inner rest : List ℕ) (n : ℕ) → inner ≡ drop 1 s → rest ≡ drop n inner → rest ≡ drop (n + 1) s
 behind_two s inner rest n cut back = back ∙ ap (drop n) cut ∙ drop-drop n 1 s ∙ ap (λ k. drop k s) (omega arith)
 
-unclosed_char : (s inner rest : List ℕ) (n v line : ℕ) (fault : LexFault) → inner ≡ drop 1 s → rest ≡ drop n inner → IsCharacter 39 inner n v → slice_index inner n ≢ 39 → fault ≡ if_ascii rest (OpenLiteral line) line → IsCharFault s line fault
+unclosed_char : (s inner rest : List ℕ) (n v line : ℕ) (fault : LexFault) → inner ≡ drop 1 s → rest ≡ drop n inner
+    → IsCharacter 39 inner n v → slice_index inner n ≢ 39 → fault ≡ if_ascii rest (OpenLiteral line) line
+    → IsCharFault s line fault
 unclosed_char s inner rest n v line fault cut back char other told =
-    let place : slice_index inner n ≡ slice_index s (n + 1) = ap (λ t. slice_index t n) cut ∙ get_or_after_one s n 0 ∙ ap (slice_index s) (omega arith) in
-    open_char n v (rw cut at char) (λ e. other (place ∙ e)) (told ∙ ap (λ r. if_ascii r (OpenLiteral line) line) (behind_two s inner rest n cut back))
+    let place : slice_index inner n ≡ slice_index s (n + 1) = ap (λ t. slice_index t n) cut ∙ get_or_after_one s n 0
+    ∙ ap (slice_index s) (omega arith) in
+    open_char n v (rw cut at char) (λ e. other (place ∙ e))
+    (told ∙ ap (λ r. if_ascii r (OpenLiteral line) line) (behind_two s inner rest n cut back))
 
 pub returns-in-Ok-2-clause-told : goal.returns-in-Ok-2-clause-told
 returns-in-Ok-2-clause-told c =
@@ -65,11 +76,15 @@ returns-in-Ok-2-clause-told c =
       | then-len-inner+else-inner-len-eq39 w ↦ w.if-inner-len-eq39.false
       | else-len-inner w ↦ λ e. omega (arith, e, get_or_past inner c.in-Ok.len 0 w.if-len-inner.false)
     ] in
-    unclosed_char c.args.octets.now inner _ c.in-Ok.len _ c.args.line _ c.split_at.ensures.back c.split_at-in-Ok-2.ensures.back c.in-Ok.ensures.form other c.unclosed.ensures
+    unclosed_char c.args.octets.now inner _ c.in-Ok.len _ c.args.line _ c.split_at.ensures.back
+    c.split_at-in-Ok-2.ensures.back c.in-Ok.ensures.form other c.unclosed.ensures
 
-no_char_there : (s inner : List ℕ) (line : ℕ) (fault inside : LexFault) → inner ≡ drop 1 s → ((n v : ℕ) → IsCharacter 39 inner n v → ⊥) → inside ≡ character_fault 39 inner line → fault ≡ if_ascii inner inside line → IsCharFault s line fault
+no_char_there : (s inner : List ℕ) (line : ℕ) (fault inside : LexFault) → inner ≡ drop 1 s
+    → ((n v : ℕ) → IsCharacter 39 inner n v → ⊥) → inside ≡ character_fault 39 inner line
+    → fault ≡ if_ascii inner inside line → IsCharFault s line fault
 no_char_there s inner line fault inside cut never is told =
-    let there : fault ≡ if_ascii inner (character_fault 39 inner line) line = told ∙ ap (λ f. if_ascii inner f line) is in
+    let there : fault ≡ if_ascii inner (character_fault 39 inner line) line =
+    told ∙ ap (λ f. if_ascii inner f line) is in
     no_char (λ n v char. never n v (rw cut char)) (there ∙ ap (λ r. if_ascii r (character_fault 39 r line) line) cut)
 
 pub returns-in-Err-clause-told : goal.returns-in-Err-clause-told

@@ -9,7 +9,8 @@ use Rattle.idl_lexer.proofs.octets.word_len.Goals as goal
 pub returns-clause-value : goal.returns-clause-value
 returns-clause-value c =
     let found : c.position.result ≡ position (λ o. not (is_word o)) c.args.octets.now =
-    position_from_yields_List (λ o. not (is_word o)) _ _ c.position.result c.position.ensures.ran (YieldsList-from_slice _ c.iter.ensures.rest) (λ x b q k. search (rules, tests)) in
+    position_from_yields_List (λ o. not (is_word o)) _ _ c.position.result c.position.ensures.ran
+    (YieldsList-from_slice _ c.iter.ensures.rest) (λ x b q k. search (rules, tests)) in
     c.unwrap_or.ensures
     ∙ ap (λ r. unwrap_or r (length c.args.octets.now)) found
     ∙ run-position is_word c.args.octets.now

@@ -9,4 +9,5 @@ whole text octets same i = rw same (rw (take_all (length text) text (omega arith
 
 pub unreachable-requires : goal.unreachable-requires
 unreachable-requires c =
-    ∥∥₁_elim c.requires (λ x y. absurd x) (λ form. let no = c.in-None.ensures.complete (whole c.args.text.now _ c.as_bytes.ensures.value form) in cc)
+    ∥∥₁_elim c.requires (λ x y. absurd x) (λ form. let no =
+    c.in-None.ensures.complete (whole c.args.text.now _ c.as_bytes.ensures.value form) in cc)

@@ -16,7 +16,8 @@ pub returns-in-Ident-clause-form : goal.returns-in-Ident-clause-form
 returns-in-Ident-clause-form c = rw c.in-Ident.is at (c.in-Ok.ensures.form [])
 
 pub returns-in_default-clause-none : goal.returns-in_default-clause-none
-returns-in_default-clause-none c n name = other_kind c.args.octets.now c.in-Ok.kind c.in-Ok.len n c.in_default.not-Ident (c.in-Ok.ensures.form []) name
+returns-in_default-clause-none c n name =
+    other_kind c.args.octets.now c.in-Ok.kind c.in-Ok.len n c.in_default.not-Ident (c.in-Ok.ensures.form []) name
 
 pub returns-in-Err-clause-none : goal.returns-in-Err-clause-none
 returns-in-Err-clause-none c n name = c.in-Err.ensures.refused n (inl name)

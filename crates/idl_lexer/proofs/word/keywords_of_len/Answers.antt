@@ -56,14 +56,18 @@ returns-then-len-lt12 c =
 other_len : (m n : ℕ) → nat_lt m 12 ≡ true → 12 ≤ n → (m == n) ≡ false
 other_len m n short long = grind (arith, nat_tests)
 
-skipped : (k : List ℕ) (r : List (List ℕ)) (n : ℕ) (b rest : Bool) → b ≡ nat_lt (length k) 12 → (b && rest) ≡ true → 12 ≤ n → (rest ≡ true → [] ≡ r) → [] ≡ cond (length k == n) (k ∷ r) r
+skipped : (k : List ℕ) (r : List (List ℕ)) (n : ℕ) (b rest : Bool) → b ≡ nat_lt (length k) 12 → (b && rest) ≡ true
+    → 12 ≤ n → (rest ≡ true → [] ≡ r) → [] ≡ cond (length k == n) (k ∷ r) r
 skipped k r n false rest is both long h = cc
-skipped k r n true rest is both long h = h both ∙ ap (λ b. cond b (k ∷ r) r) (sym (other_len (length k) n (sym is) long))
+skipped k r n true rest is both long h =
+    h both ∙ ap (λ b. cond b (k ∷ r) r) (sym (other_len (length k) n (sym is) long))
 
-none_so_long : (ks : List (List ℕ)) (n : ℕ) → 12 ≤ n → list_all (λ k. nat_lt (length k) 12) ks ≡ true → [] ≡ filter (λ k. length k == n) ks
+none_so_long : (ks : List (List ℕ)) (n : ℕ) → 12 ≤ n → list_all (λ k. nat_lt (length k) 12) ks ≡ true
+    → [] ≡ filter (λ k. length k == n) ks
 none_so_long [] n long all = refl
 none_so_long (k ∷ ks) n long all =
-    skipped k (filter (λ j. length j == n) ks) n (nat_lt (length k) 12) (list_all (λ j. nat_lt (length j) 12) ks) refl all long (none_so_long ks n long)
+    skipped k (filter (λ j. length j == n) ks) n (nat_lt (length k) 12) (list_all (λ j. nat_lt (length j) 12) ks) refl
+    all long (none_so_long ks n long)
 
 pub returns-else-len-lt12 : goal.returns-else-len-lt12
 unfolding keywords

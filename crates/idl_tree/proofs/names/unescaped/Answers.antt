@@ -8,7 +8,9 @@ without : (bs : List ℕ) → ((rest : List ℕ) → bs ≢ 95 ∷ rest) → bs 
 without [] h = refl
 without (c ∷ cs) h = let other : c ≢ 95 = λ e. h cs (ap (λ d. d ∷ cs) e) in grind (arith, nat_tests)
 
-stripped : (bs : List ℕ) (whole : Bor (List ℕ)) (r : Option (Bor (List ℕ))) → whole.now ≡ bs → MatchOption r ((rest : List ℕ) → bs ≢ 95 ∷ rest) (λ x. bs ≡ 95 ∷ x.now) → (unwrap_or r whole).now ≡ unescaped_text bs
+stripped : (bs : List ℕ) (whole : Bor (List ℕ)) (r : Option (Bor (List ℕ))) → whole.now ≡ bs
+    → MatchOption r ((rest : List ℕ) → bs ≢ 95 ∷ rest) (λ x. bs ≡ 95 ∷ x.now)
+    → (unwrap_or r whole).now ≡ unescaped_text bs
 stripped bs whole None e h = e ∙ without bs h
 stripped bs whole (Some x) e h = sym (ap unescaped_text h)
 

@@ -11,7 +11,11 @@ pub returns : goal.returns
 returns c =
     let node = c.args.node.now in
     let fits : SFits w128 c.args.n = search rules in
-    let octets = c.to_be_bytes-octets.ensures ∙ ap (λ (z : ℤ). to_be_bytes w128 (cast_unsigned w128 z)) (to_z-of_z w128 c.args.n fits) in
-    let width : c.octets-width.result ≡ octets_in (number_width node) = c.octets-width.ensures.value ∙ ap octets_in c.number_width.ensures in
-    added c.extend_from_slice.result c.args.tape.now.items c.extend_from_slice.new.self.items c.split_at.result.1.now _ c.extend_from_slice.ensures.items
-    (λ h. c.split_at.ensures.back ∙ ap₂ (λ (k : ℕ) (l : List ℕ). drop (16 - k) l) width octets ∙ low_octets node c.args.n h)
+    let octets = c.to_be_bytes-octets.ensures
+    ∙ ap (λ (z : ℤ). to_be_bytes w128 (cast_unsigned w128 z)) (to_z-of_z w128 c.args.n fits) in
+    let width : c.octets-width.result ≡ octets_in (number_width node) =
+    c.octets-width.ensures.value ∙ ap octets_in c.number_width.ensures in
+    added c.extend_from_slice.result c.args.tape.now.items c.extend_from_slice.new.self.items c.split_at.result.1.now _
+    c.extend_from_slice.ensures.items
+    (λ h. c.split_at.ensures.back ∙ ap₂ (λ (k : ℕ) (l : List ℕ). drop (16 - k) l) width octets
+    ∙ low_octets node c.args.n h)

@@ -26,9 +26,11 @@ push_value-returns-in-Items t c = on_ok_weaker c.push_items.result (λ adds insi
     let new = c.push_items.new.tape.items in
     let node : c.in-Some.node.now ≡ node_at graph number = search rules in
     let node_rules = subst (IsNode graph) (sym node) (c.nodes.ensures.rules.nodes number Octet inside) in
-    let tree = ap (λ values. Items (trees_of values)) c.deref-in-Items.ensures.value ∙ sym (ap tree_of c.in-Items.is ∙ tree_of-items c.in-Items.values) in
+    let tree = ap (λ values. Items (trees_of values)) c.deref-in-Items.ensures.value
+    ∙ sym (ap tree_of c.in-Items.is ∙ tree_of-items c.in-Items.values) in
     subst (λ value. AddsValue graph (node_at graph number) value old new) tree
-    (subst (λ found. AddsValue graph found (Items (trees_of c.deref-in-Items.result.now)) old new) node (adds node_rules))) c.push_items.ensures
+    (subst (λ found. AddsValue graph found (Items (trees_of c.deref-in-Items.result.now)) old new) node
+    (adds node_rules))) c.push_items.ensures
 
 pub push_value-returns-in-Choice : goal.push_value-returns-in-Choice
 push_value-returns-in-Choice t c = on_ok_weaker c.push_choice.result (λ adds inside.
@@ -40,24 +42,30 @@ push_value-returns-in-Choice t c = on_ok_weaker c.push_choice.result (λ adds in
     let node_rules = subst (IsNode graph) (sym node) (c.nodes.ensures.rules.nodes number Octet inside) in
     let tree = sym (ap tree_of c.in-Choice.is ∙ tree_of-choice c.in-Choice.disc c.in-Choice.member) in
     let fits : SFits w128 c.in-Choice.disc = search rules in
-    let whole = subst (λ (a : ℤ). AddsValue graph c.in-Some.node.now (Choice a (member_of c.in-Choice.member)) old new) (to_z-of_z w128 c.in-Choice.disc fits) (adds node_rules) in
+    let whole = subst (λ (a : ℤ). AddsValue graph c.in-Some.node.now (Choice a (member_of c.in-Choice.member)) old new)
+    (to_z-of_z w128 c.in-Choice.disc fits) (adds node_rules) in
     subst (λ value. AddsValue graph (node_at graph number) value old new) tree
-    (subst (λ found. AddsValue graph found (Choice c.in-Choice.disc (member_of c.in-Choice.member)) old new) node whole)) c.push_choice.ensures
+    (subst (λ found. AddsValue graph found (Choice c.in-Choice.disc (member_of c.in-Choice.member)) old new) node
+    whole)) c.push_choice.ensures
 
 pub push_items-returns-in_ok-push_count-in-Seq : goal.push_items-returns-in_ok-push_count-in-Seq
 push_items-returns-in_ok-push_count-in-Seq t c = on_ok_weaker c.push_values.result (λ adds node_rules.
     let graph = c.args.graph.now in
     let elem = c.in-Seq.elem in
     let values = c.args.values.now in
-    let inside = elements_are_within graph elem c.in-Seq.bound (length values) (subst (IsNode graph) c.in-Seq.is node_rules) in
-    subst (λ node. AddsValue graph node (Items (trees_of values)) c.args.tape.now.items c.push_values.new.tape.items) (sym c.in-Seq.is)
-    (adds_sequence graph elem c.in-Seq.bound values c.args.tape.now.items c.push_count.new.tape.items c.push_values.new.tape.items c.in_ok-push_count-in-Seq.ensures (adds inside))) c.push_values.ensures
+    let inside = elements_are_within graph elem c.in-Seq.bound (length values)
+    (subst (IsNode graph) c.in-Seq.is node_rules) in
+    subst (λ node. AddsValue graph node (Items (trees_of values)) c.args.tape.now.items c.push_values.new.tape.items)
+    (sym c.in-Seq.is)
+    (adds_sequence graph elem c.in-Seq.bound values c.args.tape.now.items c.push_count.new.tape.items
+    c.push_values.new.tape.items c.in_ok-push_count-in-Seq.ensures (adds inside))) c.push_values.ensures
 
 pub push_items-returns-in-Array : goal.push_items-returns-in-Array
 push_items-returns-in-Array t c = on_ok_weaker c.push_values-in-Array.result (λ adds node_rules.
     let graph = c.args.graph.now in
     let inside = copies_are_within graph c.in-Array.elem c.in-Array.n (subst (IsNode graph) c.in-Array.is node_rules) in
-    subst (λ node. AddsValue graph node (Items (trees_of c.args.values.now)) c.args.tape.now.items c.push_values-in-Array.new.tape.items) (sym c.in-Array.is)
+    subst (λ node. AddsValue graph node (Items (trees_of c.args.values.now)) c.args.tape.now.items
+    c.push_values-in-Array.new.tape.items) (sym c.in-Array.is)
     (adds inside)) c.push_values-in-Array.ensures
 
 pub push_items-returns-in-Struct : goal.push_items-returns-in-Struct
@@ -68,7 +76,8 @@ push_items-returns-in-Struct t c = on_ok_weaker c.push_values-in-Struct.result (
     let old = c.args.tape.now.items in
     let new = c.push_values-in-Struct.new.tape.items in
     let AddsTo : Node → Type 0 = λ node. AddsValue graph node (Items values) old new in
-    let all = subst (λ numbers. AreWithin graph numbers → AddsValues graph numbers values old new) c.as_slice.ensures adds in
+    let all = subst (λ numbers. AreWithin graph numbers → AddsValues graph numbers values old new) c.as_slice.ensures
+    adds in
     elim c.in-Struct.is [
       | inl e ↦ subst AddsTo (sym e) (all (members_are_within graph members (subst (IsNode graph) e node_rules)))
       | inr e ↦ subst AddsTo (sym e) (all (frame_is_within graph members (subst (IsNode graph) e node_rules)))
@@ -89,12 +98,17 @@ push_choice-returns-in-Some-Some t c = on_ok_weaker c.push_value.result (λ adds
     let old = c.args.tape.now.items in
     let mid = c.push_switch.new.tape.items in
     let new = c.push_value.new.tape.items in
-    let switched = subst (λ (a : ℤ). IsNumber (node_at graph switch) a → mid ≡ old ++ word Big (number_width (node_at graph switch)) a) disc_is (c.in_ok-push_switch.ensures (switch_within graph switch arms default union_rules)) in
+    let switched = subst (λ (a : ℤ). IsNumber (node_at graph switch) a
+    → mid ≡ old ++ word Big (number_width (node_at graph switch)) a) disc_is
+    (c.in_ok-push_switch.ensures (switch_within graph switch arms default union_rules)) in
     let number = c.in-Some-Some.number in
-    let member = subst (λ value. AddsValue graph (node_at graph number) (tree_of value) mid new) c.deref.ensures (adds inside.0) in
-    let whole = adds_union graph switch arms default disc number c.in-Some-Some.value old mid new switched chosen member in
+    let member = subst (λ value. AddsValue graph (node_at graph number) (tree_of value) mid new) c.deref.ensures
+    (adds inside.0) in
+    let whole = adds_union graph switch arms default disc number c.in-Some-Some.value old mid new switched chosen member
+    in
     subst (λ node. AddsValue graph node (Choice disc (member_of c.args.member.now)) old new) (sym c.in-Union.is)
-    (subst (λ m. AddsValue graph (Union switch arms default) (Choice disc (member_of m)) old new) (sym c.in-Some-Some.is-1) whole)) c.push_value.ensures
+    (subst (λ m. AddsValue graph (Union switch arms default) (Choice disc (member_of m)) old new)
+    (sym c.in-Some-Some.is-1) whole)) c.push_value.ensures
 
 pub push_choice-returns-in_default-2-2 : goal.push_choice-returns-in_default-2-2
 push_choice-returns-in_default-2-2 t c = λ node_rules.
@@ -109,7 +123,9 @@ push_choice-returns-in_default-2-2 t c = λ node_rules.
     let chosen = ap option_to_list (sym c.in_default-2.is-0) ∙ c.chosen.ensures ∙ ap (arm_of arms default) disc_is in
     let old = c.args.tape.now.items in
     let mid = c.push_switch.new.tape.items in
-    let switched = subst (λ (a : ℤ). IsNumber (node_at graph switch) a → mid ≡ old ++ word Big (number_width (node_at graph switch)) a) disc_is (c.in_ok-push_switch.ensures (switch_within graph switch arms default union_rules)) in
+    let switched = subst (λ (a : ℤ). IsNumber (node_at graph switch) a
+    → mid ≡ old ++ word Big (number_width (node_at graph switch)) a) disc_is
+    (c.in_ok-push_switch.ensures (switch_within graph switch arms default union_rules)) in
     subst (λ node. AddsValue graph node (Choice disc (member_of c.args.member.now)) old mid) (sym c.in-Union.is)
     (adds_switch graph switch arms default disc (member_of c.args.member.now) old mid switched chosen)
 
@@ -126,6 +142,15 @@ push_values-loop-value-preserved t c = λ inside.
     let start = c.args.tape.now.items in
     let before = c.loop-value.invariant inside in
     let within = subst (AreWithin graph) c.in-Some.ensures before.0 in
-    let at_list = subst (λ numbers. (depth : ℕ) → FitAll graph parts (trees_of values) depth → FitAll graph numbers (trees_of (drop i values)) depth × (tape ++ tapes_of graph numbers (trees_of (drop i values)) ≡ start ++ tapes_of graph parts (trees_of values))) c.in-Some.ensures before.1 in
-    let at_trees = subst (λ trees. (depth : ℕ) → FitAll graph parts (trees_of values) depth → FitAll graph (number ∷ more) trees depth × (tape ++ tapes_of graph (number ∷ more) trees ≡ start ++ tapes_of graph parts (trees_of values))) (trees_of-drop values i value c.loop-value-test.true c.value-item.is) at_list in
-    (within.1, adds_next graph parts more number (trees_of values) (trees_of (drop (i + 1) values)) (tree_of value) start tape c.push_value.new.tape.items at_trees (c.in_ok-push_value.ensures within.0))
+    let at_list = subst (λ numbers. (depth : ℕ) → FitAll graph parts (trees_of values) depth
+    → FitAll graph numbers (trees_of (drop i values)) depth
+    × (tape ++ tapes_of graph numbers (trees_of (drop i values)) ≡ start ++ tapes_of graph parts (trees_of values)))
+    c.in-Some.ensures before.1 in
+    let at_trees = subst (λ trees. (depth : ℕ) → FitAll graph parts (trees_of values) depth
+    → FitAll graph (number ∷ more) trees depth
+    × (tape ++ tapes_of graph (number ∷ more) trees ≡ start ++ tapes_of graph parts (trees_of values)))
+    (trees_of-drop values i value c.loop-value-test.true c.value-item.is) at_list in (
+      within.1,
+      adds_next graph parts more number (trees_of values) (trees_of (drop (i + 1) values)) (tree_of value)
+          start tape c.push_value.new.tape.items at_trees (c.in_ok-push_value.ensures within.0),
+    )

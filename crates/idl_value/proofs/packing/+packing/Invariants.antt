@@ -9,4 +9,5 @@ invariant-push_values-loop-value l =
     AreWithin l.graph (numbers_of l.fn.parts) → AreWithin l.graph (numbers_of l.left)
     × ((depth : ℕ) → FitAll l.graph (numbers_of l.fn.parts) (trees_of l.values) depth
     → FitAll l.graph (numbers_of l.left) (trees_of (drop l.value-index l.values)) depth
-    × (l.tape.items ++ tapes_of l.graph (numbers_of l.left) (trees_of (drop l.value-index l.values)) ≡ l.fn.tape.items ++ tapes_of l.graph (numbers_of l.fn.parts) (trees_of l.values)))
+    × (l.tape.items ++ tapes_of l.graph (numbers_of l.left) (trees_of (drop l.value-index l.values))
+    ≡ l.fn.tape.items ++ tapes_of l.graph (numbers_of l.fn.parts) (trees_of l.values)))

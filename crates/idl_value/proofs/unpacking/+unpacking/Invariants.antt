@@ -23,14 +23,17 @@ abbrev pub decreases-read_values : goal.decreases-read_values
 decreases-read_values l = 4 * (66 * l.depth + above (height_of l.graph.now) (numbers_of l.parts)) + 1
 
 abbrev pub decreases-read_choice : goal.decreases-read_choice
-decreases-read_choice l = 4 * (66 * l.depth + above (height_of l.graph.now) (held_by (Union l.switch l.arms.now l.default))) + 2
+decreases-read_choice l =
+    4 * (66 * l.depth + above (height_of l.graph.now) (held_by (Union l.switch l.arms.now l.default))) + 2
 
 abbrev pub invariant-read_values-loop-number : goal.invariant-read_values-loop-number
 invariant-read_values-loop-number l =
     (above (height_of l.graph) (numbers_of l.left) ≤ above (height_of l.graph) (numbers_of l.fn.parts))
     × (IsGraph l.graph → AreWithin l.graph (numbers_of l.fn.parts) → AreWithin l.graph (numbers_of l.left)
-    × ((values : Trees) (more : List ℕ) → BeginsAll l.graph (numbers_of l.left) l.depth l.rest values more → BeginsAll l.graph (numbers_of l.fn.parts) l.depth l.fn.tape (joined l.values.items values) more)
-    × ((values : Trees) (more : List ℕ) → BeginsAll l.graph (numbers_of l.fn.parts) l.depth l.fn.tape values more → (others : Trees) × BeginsAll l.graph (numbers_of l.left) l.depth l.rest others more))
+    × ((values : Trees) (more : List ℕ) → BeginsAll l.graph (numbers_of l.left) l.depth l.rest values more
+    → BeginsAll l.graph (numbers_of l.fn.parts) l.depth l.fn.tape (joined l.values.items values) more)
+    × ((values : Trees) (more : List ℕ) → BeginsAll l.graph (numbers_of l.fn.parts) l.depth l.fn.tape values more
+    → (others : Trees) × BeginsAll l.graph (numbers_of l.left) l.depth l.rest others more))
 
 abbrev pub decreases-read_values-loop-number : goal.decreases-read_values-loop-number
 decreases-read_values-loop-number l = length (numbers_of l.left)

@@ -8,5 +8,6 @@ use Rattle.idlc_c.proofs.marshal.decode.Goals as goal
 
 pub returns-in-Err-clause-refused : goal.returns-in-Err-clause-refused
 returns-in-Err-clause-refused c =
-    let Refuses = λ (h : Loaded). OnFalse (wants_memory c.in-Err.fault) (HasNoTape c.args.node c.args.order c.args.pos c.args.octets.now h.table)
+    let Refuses = λ (h : Loaded). OnFalse (wants_memory c.in-Err.fault)
+    (HasNoTape c.args.node c.args.order c.args.pos c.args.octets.now h.table)
     in subst Refuses c.held.view_is (subst (λ (s : Shared). Refuses s.loaded) c.deref.ensures c.in-Err.ensures.refused)

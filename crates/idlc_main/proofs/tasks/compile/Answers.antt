@@ -7,7 +7,8 @@ returns-clause-compiled g c = record {
   octets = c.in-Ok.octets.items;
   read = c.in-Ok.ensures.read;
   file = c.in-Ok-compile_file.file;
-  is = subst (λ octets. IsCompiledFile octets c.in-Ok-compile_file.file) c.as_slice.ensures.value c.in-Ok-compile_file.ensures.compiled;
+  is = subst (λ octets. IsCompiledFile octets c.in-Ok-compile_file.file) c.as_slice.ensures.value
+      c.in-Ok-compile_file.ensures.compiled;
   taken = c.in_ok-put_compiled.ensures.taken;
   line_is = refl;
 }

@@ -7,6 +7,7 @@ use Rattle.iiop_broker.proofs.connections.begin.Goals as goal
 pub returns-in-Some-clause-refused : goal.returns-in-Some-clause-refused
 returns-in-Some-clause-refused c = (
   is_there c.args.c c.in-Some.field-0 (streams_of c.args.connections.now.items)
-      (subst (λ xs. IsPlace 0 c.args.c c.in-Some.field-0 (streams_of xs)) c.as_slice.ensures.value c.in-Some.ensures.found),
+      (subst (λ xs. IsPlace 0 c.args.c c.in-Some.field-0 (streams_of xs)) c.as_slice.ensures.value
+      c.in-Some.ensures.found),
   refl,
 )

@@ -6,7 +6,8 @@ use Rattle.iiop_broker.proofs.connections.end.Goals as goal
 
 pub returns-in-Some-clause-left : goal.returns-in-Some-clause-left
 returns-in-Some-clause-left c =
-    let p = subst (λ xs. IsPlace 0 c.args.c c.in-Some.place (streams_of xs)) c.as_slice.ensures.value c.in-Some.ensures.found in
+    let p = subst (λ xs. IsPlace 0 c.args.c c.in-Some.place (streams_of xs)) c.as_slice.ensures.value
+    c.in-Some.ensures.found in
     record {
       there = is_there c.args.c c.in-Some.place (streams_of c.args.connections.now.items) p;
       now = c.remove_at.ensures c.args.c p;

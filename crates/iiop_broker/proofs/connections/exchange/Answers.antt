@@ -6,14 +6,16 @@ use Rattle.iiop_broker.proofs.connections.exchange.Goals as goal
 
 pub index_mut-requires : goal.index_mut-requires
 index_mut-requires c =
-    let below = streams_below c.args.c c.args.place c.args.connections.now.items c.requires in omega (arith, below, c.args.connections.now.ok)
+    let below = streams_below c.args.c c.args.place c.args.connections.now.items c.requires in
+    omega (arith, below, c.args.connections.now.ok)
 
 pub returns-clause-was : goal.returns-clause-was
 returns-clause-was c =
     let old = c.args.connections.now.items in
     let item = c.index_mut.result.now in
     let there : slice_get old c.args.place ≡ Some item =
-    item_at old c.args.place item (streams_below c.args.c c.args.place old c.requires) ∙ ap Some (sym c.index_mut.ensures.value) in
+    item_at old c.args.place item (streams_below c.args.c c.args.place old c.requires)
+    ∙ ap Some (sym c.index_mut.ensures.value) in
     streams_was c.args.c c.args.place old item c.requires there
     ∙ ap (λ one. Some (stream_of one.1)) (sym c.replace-was.ensures.value)
 

@@ -8,4 +8,5 @@ use Rattle.iiop_broker.proofs.laws.connections_are_few.Goals as goal
 pub returns : goal.returns
 returns g c = λ served servant after there said h.
     let acting = acts g.S.Servant.says g.S.Servant.after in
-    follows_few rests (Serves acting served) (Moves acting served) said (world servant []) (world after there) h (omega arith)
+    follows_few rests (Serves acting served) (Moves acting served) said (world servant []) (world after there) h
+    (omega arith)

@@ -16,25 +16,32 @@ pub loop-count-init : goal.loop-count-init
 loop-count-init g c =
     let acting = acts g.S.Servant.says g.S.Servant.after in
     let served = c.args.broker.now.served in
-    let start = ends (g.I.Input.left c.args.reader.now) (g.O.Output.written c.args.writer.now) (g.I.Input.failure c.args.reader.now) (g.O.Output.failure c.args.writer.now) in
+    let start = ends (g.I.Input.left c.args.reader.now) (g.O.Output.written c.args.writer.now)
+    (g.I.Input.failure c.args.reader.now) (g.O.Output.failure c.args.writer.now) in
     record {
-      there = still_there acting served c.args.c c.requires.others c.requires.before [] [] false c.args.broker.now.world c.requires.stream;
+      there = still_there acting served c.args.c c.requires.others c.requires.before [] [] false c.args.broker.now.world
+          c.requires.stream;
       served = refl;
       bound = omega arith;
       upto = omega arith;
       room = omega arith;
-      going = λ others before stream. going_start acting served c.args.c others before start c.args.broker.now.world stream;
+      going = λ others before stream. going_start acting served c.args.c others before start c.args.broker.now.world
+          stream;
     }
 
 pub returns-in-Ok-eq0-clause-outcome : goal.returns-in-Ok-eq0-clause-outcome
 returns-in-Ok-eq0-clause-outcome g c = λ others before stream.
     let acting = acts g.S.Servant.says g.S.Servant.after in
     let served = c.args.broker.now.served in
-    let start = ends (g.I.Input.left c.args.reader.now) (g.O.Output.written c.args.writer.now) (g.I.Input.failure c.args.reader.now) (g.O.Output.failure c.args.writer.now) in
-    let now = ends (g.I.Input.left c.loop-count.reader) (g.O.Output.written c.loop-count.writer) (g.I.Input.failure c.loop-count.reader) (g.O.Output.failure c.loop-count.writer) in
-    let after = ends (g.I.Input.left c.read_within.new.reader) (g.O.Output.written c.loop-count.writer) (g.I.Input.failure c.read_within.new.reader) (g.O.Output.failure c.loop-count.writer) in
+    let start = ends (g.I.Input.left c.args.reader.now) (g.O.Output.written c.args.writer.now)
+    (g.I.Input.failure c.args.reader.now) (g.O.Output.failure c.args.writer.now) in
+    let now = ends (g.I.Input.left c.loop-count.reader) (g.O.Output.written c.loop-count.writer)
+    (g.I.Input.failure c.loop-count.reader) (g.O.Output.failure c.loop-count.writer) in
+    let after = ends (g.I.Input.left c.read_within.new.reader) (g.O.Output.written c.loop-count.writer)
+    (g.I.Input.failure c.read_within.new.reader) (g.O.Output.failure c.loop-count.writer) in
     let going = c.loop-count.invariant.going others before stream in
-    all_read acting served c.args.c others before start now after c.loop-count.sent c.loop-count.count c.loop-count.broker.world
+    all_read acting served c.args.c others before start now after c.loop-count.sent c.loop-count.count
+    c.loop-count.broker.world
     (take c.in-Ok-eq0.field-0 c.read_within.new.buffer) going c.in-Ok-eq0.ensures.given
     (ap (λ (k : ℕ). take k c.read_within.new.buffer) c.in-Ok-eq0.field-0-test)
     (c.in-Ok-eq0.ensures.end c.in-Ok-eq0.field-0-test) refl
@@ -43,11 +50,15 @@ pub returns-in-Err-clause-outcome : goal.returns-in-Err-clause-outcome
 returns-in-Err-clause-outcome g c = λ others before stream.
     let acting = acts g.S.Servant.says g.S.Servant.after in
     let served = c.args.broker.now.served in
-    let start = ends (g.I.Input.left c.args.reader.now) (g.O.Output.written c.args.writer.now) (g.I.Input.failure c.args.reader.now) (g.O.Output.failure c.args.writer.now) in
-    let now = ends (g.I.Input.left c.loop-count.reader) (g.O.Output.written c.loop-count.writer) (g.I.Input.failure c.loop-count.reader) (g.O.Output.failure c.loop-count.writer) in
-    let after = ends (g.I.Input.left c.read_within.new.reader) (g.O.Output.written c.loop-count.writer) (g.I.Input.failure c.read_within.new.reader) (g.O.Output.failure c.loop-count.writer) in
+    let start = ends (g.I.Input.left c.args.reader.now) (g.O.Output.written c.args.writer.now)
+    (g.I.Input.failure c.args.reader.now) (g.O.Output.failure c.args.writer.now) in
+    let now = ends (g.I.Input.left c.loop-count.reader) (g.O.Output.written c.loop-count.writer)
+    (g.I.Input.failure c.loop-count.reader) (g.O.Output.failure c.loop-count.writer) in
+    let after = ends (g.I.Input.left c.read_within.new.reader) (g.O.Output.written c.loop-count.writer)
+    (g.I.Input.failure c.read_within.new.reader) (g.O.Output.failure c.loop-count.writer) in
     let going = c.loop-count.invariant.going others before stream in
-    unread acting served c.args.c others before start now after c.loop-count.sent c.loop-count.count c.loop-count.broker.world going
+    unread acting served c.args.c others before start now after c.loop-count.sent c.loop-count.count
+    c.loop-count.broker.world going
     c.in-Err.ensures.kept refl c.in-Err.ensures.failed
 
 pub unreachable-requires : goal.unreachable-requires
@@ -60,13 +71,17 @@ pub returns-in-NoMemory-clause-outcome : goal.returns-in-NoMemory-clause-outcome
 returns-in-NoMemory-clause-outcome g c = λ others before stream.
     let acting = acts g.S.Servant.says g.S.Servant.after in
     let served = c.args.broker.now.served in
-    let start = ends (g.I.Input.left c.args.reader.now) (g.O.Output.written c.args.writer.now) (g.I.Input.failure c.args.reader.now) (g.O.Output.failure c.args.writer.now) in
-    let now = ends (g.I.Input.left c.loop-count.reader) (g.O.Output.written c.loop-count.writer) (g.I.Input.failure c.loop-count.reader) (g.O.Output.failure c.loop-count.writer) in
-    let after = ends (g.I.Input.left c.read_within.new.reader) (g.O.Output.written c.loop-count.writer) (g.I.Input.failure c.read_within.new.reader) (g.O.Output.failure c.loop-count.writer) in
+    let start = ends (g.I.Input.left c.args.reader.now) (g.O.Output.written c.args.writer.now)
+    (g.I.Input.failure c.args.reader.now) (g.O.Output.failure c.args.writer.now) in
+    let now = ends (g.I.Input.left c.loop-count.reader) (g.O.Output.written c.loop-count.writer)
+    (g.I.Input.failure c.loop-count.reader) (g.O.Output.failure c.loop-count.writer) in
+    let after = ends (g.I.Input.left c.read_within.new.reader) (g.O.Output.written c.loop-count.writer)
+    (g.I.Input.failure c.read_within.new.reader) (g.O.Output.failure c.loop-count.writer) in
     let piece = c.split_at.result.0.now in
     let cut_is : take c.in-Ok.n c.read_within.new.buffer ≡ piece =
     ap (take c.in-Ok.n) (sym c.as_slice.ensures) ∙ sym c.split_at.ensures.front in
-    let gives : Gives now.left piece after.left = subst (λ (p : List ℕ). Gives now.left p after.left) cut_is c.in-Ok.ensures.given in
+    let gives : Gives now.left piece after.left =
+    subst (λ (p : List ℕ). Gives now.left p after.left) cut_is c.in-Ok.ensures.given in
     let old = c.loop-count.broker.world in
     let new = c.hear_piece.new.self.world in
     let refused = subst (λ s. IsRefused acting s old (Brings c.args.c piece) c.in-Err-hear_piece.fault new)
@@ -80,13 +95,17 @@ pub returns-in-Err-send-clause-outcome : goal.returns-in-Err-send-clause-outcome
 returns-in-Err-send-clause-outcome g c = λ others before stream.
     let acting = acts g.S.Servant.says g.S.Servant.after in
     let served = c.args.broker.now.served in
-    let start = ends (g.I.Input.left c.args.reader.now) (g.O.Output.written c.args.writer.now) (g.I.Input.failure c.args.reader.now) (g.O.Output.failure c.args.writer.now) in
-    let now = ends (g.I.Input.left c.loop-count.reader) (g.O.Output.written c.loop-count.writer) (g.I.Input.failure c.loop-count.reader) (g.O.Output.failure c.loop-count.writer) in
-    let after = ends (g.I.Input.left c.read_within.new.reader) (g.O.Output.written c.send.new.writer) (g.I.Input.failure c.read_within.new.reader) (g.O.Output.failure c.send.new.writer) in
+    let start = ends (g.I.Input.left c.args.reader.now) (g.O.Output.written c.args.writer.now)
+    (g.I.Input.failure c.args.reader.now) (g.O.Output.failure c.args.writer.now) in
+    let now = ends (g.I.Input.left c.loop-count.reader) (g.O.Output.written c.loop-count.writer)
+    (g.I.Input.failure c.loop-count.reader) (g.O.Output.failure c.loop-count.writer) in
+    let after = ends (g.I.Input.left c.read_within.new.reader) (g.O.Output.written c.send.new.writer)
+    (g.I.Input.failure c.read_within.new.reader) (g.O.Output.failure c.send.new.writer) in
     let piece = c.split_at.result.0.now in
     let cut_is : take c.in-Ok.n c.read_within.new.buffer ≡ piece =
     ap (take c.in-Ok.n) (sym c.as_slice.ensures) ∙ sym c.split_at.ensures.front in
-    let gives : Gives now.left piece after.left = subst (λ (p : List ℕ). Gives now.left p after.left) cut_is c.in-Ok.ensures.given in
+    let gives : Gives now.left piece after.left =
+    subst (λ (p : List ℕ). Gives now.left p after.left) cut_is c.in-Ok.ensures.given in
     let old = c.loop-count.broker.world in
     let new = c.hear_piece.new.self.world in
     let answer = c.in-Ok-hear_piece.answer.items in
@@ -94,33 +113,48 @@ returns-in-Err-send-clause-outcome g c = λ others before stream.
     subst (λ s. Answers rests (Serves acting s) old c.args.c piece answer new) c.loop-count.invariant.served
     c.in-Ok-hear_piece.ensures.answered in
     let unsent : IsUnsent now.written answer c.in-Err-send.n after.written after.unwritten =
-    subst (λ (o : List ℕ). IsUnsent now.written o c.in-Err-send.n after.written after.unwritten) c.as_slice-in-loop-count.ensures.value
+    subst (λ (o : List ℕ). IsUnsent now.written o c.in-Err-send.n after.written after.unwritten)
+    c.as_slice-in-loop-count.ensures.value
     c.in-Err-send.ensures.unsent in
-    stuck acting served c.args.c others before start now after c.loop-count.sent c.loop-count.count c.in-Err-send.n old new
+    stuck acting served c.args.c others before start now after c.loop-count.sent c.loop-count.count c.in-Err-send.n old
+    new
     piece (c.loop-count.invariant.going others before stream) gives
-    (record { answer = answer; answers = answers; within = unsent.within; wrote = unsent.written; failed = unsent.failed })
+    (record {
+      answer = answer;
+      answers = answers;
+      within = unsent.within;
+      wrote = unsent.written;
+      failed =
+          unsent.failed;
+    })
 
 pub returns-then-is_closed-clause-outcome : goal.returns-then-is_closed-clause-outcome
 returns-then-is_closed-clause-outcome g c = λ others before stream.
     let acting = acts g.S.Servant.says g.S.Servant.after in
     let served = c.args.broker.now.served in
-    let start = ends (g.I.Input.left c.args.reader.now) (g.O.Output.written c.args.writer.now) (g.I.Input.failure c.args.reader.now) (g.O.Output.failure c.args.writer.now) in
-    let now = ends (g.I.Input.left c.loop-count.reader) (g.O.Output.written c.loop-count.writer) (g.I.Input.failure c.loop-count.reader) (g.O.Output.failure c.loop-count.writer) in
-    let after = ends (g.I.Input.left c.read_within.new.reader) (g.O.Output.written c.send.new.writer) (g.I.Input.failure c.read_within.new.reader) (g.O.Output.failure c.send.new.writer) in
+    let start = ends (g.I.Input.left c.args.reader.now) (g.O.Output.written c.args.writer.now)
+    (g.I.Input.failure c.args.reader.now) (g.O.Output.failure c.args.writer.now) in
+    let now = ends (g.I.Input.left c.loop-count.reader) (g.O.Output.written c.loop-count.writer)
+    (g.I.Input.failure c.loop-count.reader) (g.O.Output.failure c.loop-count.writer) in
+    let after = ends (g.I.Input.left c.read_within.new.reader) (g.O.Output.written c.send.new.writer)
+    (g.I.Input.failure c.read_within.new.reader) (g.O.Output.failure c.send.new.writer) in
     let piece = c.split_at.result.0.now in
     let cut_is : take c.in-Ok.n c.read_within.new.buffer ≡ piece =
     ap (take c.in-Ok.n) (sym c.as_slice.ensures) ∙ sym c.split_at.ensures.front in
-    let gives : Gives now.left piece after.left = subst (λ (p : List ℕ). Gives now.left p after.left) cut_is c.in-Ok.ensures.given in
+    let gives : Gives now.left piece after.left =
+    subst (λ (p : List ℕ). Gives now.left p after.left) cut_is c.in-Ok.ensures.given in
     let old = c.loop-count.broker.world in
     let new = c.hear_piece.new.self.world in
     let answer = c.in-Ok-hear_piece.answer.items in
     let answers : Answers rests (Serves acting served) old c.args.c piece answer new =
     subst (λ s. Answers rests (Serves acting s) old c.args.c piece answer new) c.loop-count.invariant.served
     c.in-Ok-hear_piece.ensures.answered in
-    let is : IsSent acting served c.args.c old piece now.written (length answer) c.is_closed.result new after.written = record {
+    let is : IsSent acting served c.args.c old piece now.written (length answer) c.is_closed.result new after.written =
+    record {
       answer = answer;
       answers = answers;
-      wrote = subst (λ (o : List ℕ). Adds now.written o after.written) c.as_slice-in-loop-count.ensures.value c.in-Ok-send.ensures.sent;
+      wrote = subst (λ (o : List ℕ). Adds now.written o after.written) c.as_slice-in-loop-count.ensures.value
+          c.in-Ok-send.ensures.sent;
       count = refl;
       closed = c.is_closed.ensures;
     } in
@@ -131,35 +165,45 @@ pub loop-count-preserved : goal.loop-count-preserved
 loop-count-preserved g c =
     let acting = acts g.S.Servant.says g.S.Servant.after in
     let served = c.args.broker.now.served in
-    let start = ends (g.I.Input.left c.args.reader.now) (g.O.Output.written c.args.writer.now) (g.I.Input.failure c.args.reader.now) (g.O.Output.failure c.args.writer.now) in
-    let now = ends (g.I.Input.left c.loop-count.reader) (g.O.Output.written c.loop-count.writer) (g.I.Input.failure c.loop-count.reader) (g.O.Output.failure c.loop-count.writer) in
-    let after = ends (g.I.Input.left c.read_within.new.reader) (g.O.Output.written c.send.new.writer) (g.I.Input.failure c.read_within.new.reader) (g.O.Output.failure c.send.new.writer) in
+    let start = ends (g.I.Input.left c.args.reader.now) (g.O.Output.written c.args.writer.now)
+    (g.I.Input.failure c.args.reader.now) (g.O.Output.failure c.args.writer.now) in
+    let now = ends (g.I.Input.left c.loop-count.reader) (g.O.Output.written c.loop-count.writer)
+    (g.I.Input.failure c.loop-count.reader) (g.O.Output.failure c.loop-count.writer) in
+    let after = ends (g.I.Input.left c.read_within.new.reader) (g.O.Output.written c.send.new.writer)
+    (g.I.Input.failure c.read_within.new.reader) (g.O.Output.failure c.send.new.writer) in
     let piece = c.split_at.result.0.now in
     let cut_is : take c.in-Ok.n c.read_within.new.buffer ≡ piece =
     ap (take c.in-Ok.n) (sym c.as_slice.ensures) ∙ sym c.split_at.ensures.front in
-    let gives : Gives now.left piece after.left = subst (λ (p : List ℕ). Gives now.left p after.left) cut_is c.in-Ok.ensures.given in
+    let gives : Gives now.left piece after.left =
+    subst (λ (p : List ℕ). Gives now.left p after.left) cut_is c.in-Ok.ensures.given in
     let old = c.loop-count.broker.world in
     let new = c.hear_piece.new.self.world in
     let answer = c.in-Ok-hear_piece.answer.items in
     let answers : Answers rests (Serves acting served) old c.args.c piece answer new =
     subst (λ s. Answers rests (Serves acting s) old c.args.c piece answer new) c.loop-count.invariant.served
     c.in-Ok-hear_piece.ensures.answered in
-    let is : IsSent acting served c.args.c old piece now.written c.len.result c.is_closed.result new after.written = record {
+    let is : IsSent acting served c.args.c old piece now.written c.len.result c.is_closed.result new after.written =
+    record {
       answer = answer;
       answers = answers;
-      wrote = subst (λ (o : List ℕ). Adds now.written o after.written) c.as_slice-in-loop-count.ensures.value c.in-Ok-send.ensures.sent;
+      wrote = subst (λ (o : List ℕ). Adds now.written o after.written) c.as_slice-in-loop-count.ensures.value
+          c.in-Ok-send.ensures.sent;
       count = let len = c.len.ensures in let ok = c.in-Ok-hear_piece.answer.ok.0 in omega (arith, len, ok);
       closed = c.is_closed.ensures;
     } in
     let going : (others : List (ℕ × Stream)) (before : g.row.S.Denot)
     → AnsweredStream acting served c.args.c others before [] [] false c.args.broker.now.world
-    → Going acting served c.args.c others before start after (c.loop-count.sent + c.len.result) (c.loop-count.count + 1) new =
+    → Going acting served c.args.c others before start after (c.loop-count.sent + c.len.result) (c.loop-count.count + 1)
+    new =
     λ others before stream. going_on acting served c.args.c others before start now after c.loop-count.sent
-    c.loop-count.count old new piece c.len.result c.is_closed.result (c.loop-count.invariant.going others before stream) gives
-    (omega (arith, ap length cut_is, c.split_at.ensures.front_len, c.in-Ok.n-test.1, c.in-Ok.ensures.within)) is c.if-is_closed.false in
+    c.loop-count.count old new piece c.len.result c.is_closed.result (c.loop-count.invariant.going others before stream)
+    gives
+    (omega (arith, ap length cut_is, c.split_at.ensures.front_len, c.in-Ok.n-test.1, c.in-Ok.ensures.within)) is
+    c.if-is_closed.false in
     let kept = going c.requires.others c.requires.before c.requires.stream in
     record {
-      there = still_there acting served c.args.c c.requires.others c.requires.before kept.octets kept.answer false new kept.stream;
+      there = still_there acting served c.args.c c.requires.others c.requires.before kept.octets kept.answer false new
+          kept.stream;
       served = c.in-Ok-hear_piece.ensures.served ∙ c.loop-count.invariant.served;
       bound = let b = c.loop-count.invariant.bound in search rules;
       upto = let t = c.loop-count-test.true in omega (arith, t);
@@ -171,7 +215,10 @@ pub returns-clause-outcome : goal.returns-clause-outcome
 returns-clause-outcome g c = λ others before stream.
     let acting = acts g.S.Servant.says g.S.Servant.after in
     let served = c.args.broker.now.served in
-    let start = ends (g.I.Input.left c.args.reader.now) (g.O.Output.written c.args.writer.now) (g.I.Input.failure c.args.reader.now) (g.O.Output.failure c.args.writer.now) in
-    let now = ends (g.I.Input.left c.loop-count.reader) (g.O.Output.written c.loop-count.writer) (g.I.Input.failure c.loop-count.reader) (g.O.Output.failure c.loop-count.writer) in
+    let start = ends (g.I.Input.left c.args.reader.now) (g.O.Output.written c.args.writer.now)
+    (g.I.Input.failure c.args.reader.now) (g.O.Output.failure c.args.writer.now) in
+    let now = ends (g.I.Input.left c.loop-count.reader) (g.O.Output.written c.loop-count.writer)
+    (g.I.Input.failure c.loop-count.reader) (g.O.Output.failure c.loop-count.writer) in
     let going = c.loop-count.invariant.going others before stream in
-    unended acting served c.args.c others before start now c.loop-count.sent c.loop-count.count c.args.reads c.loop-count.broker.world going c.loop-count-test.false
+    unended acting served c.args.c others before start now c.loop-count.sent c.loop-count.count c.args.reads
+    c.loop-count.broker.world going c.loop-count-test.false

@@ -15,10 +15,13 @@ invariant-loop-count g l = record {
   upto : l.count ≤ l.reads;
   room : 0 < length l.buffer;
   going : (others : List (ℕ × Stream)) (before : g.row.S.Denot)
-      → AnsweredStream (acts g.S.Servant.says g.S.Servant.after) l.fn.broker.served l.c others before [] [] false l.fn.broker.world
+      → AnsweredStream (acts g.S.Servant.says g.S.Servant.after) l.fn.broker.served l.c others before [] [] false
+      l.fn.broker.world
       → Going (acts g.S.Servant.says g.S.Servant.after) l.fn.broker.served l.c others before
-      (ends (g.I.Input.left l.fn.reader) (g.O.Output.written l.fn.writer) (g.I.Input.failure l.fn.reader) (g.O.Output.failure l.fn.writer))
-      (ends (g.I.Input.left l.reader) (g.O.Output.written l.writer) (g.I.Input.failure l.reader) (g.O.Output.failure l.writer))
+      (ends (g.I.Input.left l.fn.reader) (g.O.Output.written l.fn.writer) (g.I.Input.failure l.fn.reader)
+      (g.O.Output.failure l.fn.writer))
+      (ends (g.I.Input.left l.reader) (g.O.Output.written l.writer) (g.I.Input.failure l.reader)
+      (g.O.Output.failure l.writer))
       l.sent l.count l.broker.world;
 }
 

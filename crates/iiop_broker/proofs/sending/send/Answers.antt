@@ -13,7 +13,8 @@ loop-sent-preserved g c =
       written = written_more (g.O.Output.written c.args.writer.now) (g.O.Output.written c.loop-sent.writer)
           (g.O.Output.written c.write.new.self) at n octets back c.loop-sent.invariant.written c.split_at.ensures.back
           c.in-Ok.ensures.written;
-      sound = unstuck (g.O.Output.failure c.loop-sent.writer) (g.O.Output.failure c.write.new.self) back n c.in-Ok.n-test.1
+      sound = unstuck (g.O.Output.failure c.loop-sent.writer) (g.O.Output.failure c.write.new.self) back n
+          c.in-Ok.n-test.1
           c.in-Ok.ensures.stuck
           ∙ c.loop-sent.invariant.sound;
     }

@@ -13,6 +13,9 @@ pub returns : goal.returns
 returns c =
     let es = c.args.names.now.entries in
     let table = c.in_ok-table.table in
-    let starts = ap undefined_yet (sym c.len.ensures.count) ∙ same_start (undefined_yet c.len.result) table c.in_ok-table.ensures in
-    subst (λ xs. Tells c.with_definitions.result (λ t. t) (each (definition_after es 0) (undefined_yet (length es)) xs)) c.as_slice.ensures.value
-    (subst (λ d. Tells c.with_definitions.result (λ t. t) (each (definition_after es 0) d c.as_slice.result.now)) (sym starts) c.with_definitions.ensures)
+    let starts = ap undefined_yet (sym c.len.ensures.count)
+    ∙ same_start (undefined_yet c.len.result) table c.in_ok-table.ensures in
+    subst (λ xs. Tells c.with_definitions.result (λ t. t) (each (definition_after es 0) (undefined_yet (length es)) xs))
+    c.as_slice.ensures.value
+    (subst (λ d. Tells c.with_definitions.result (λ t. t) (each (definition_after es 0) d c.as_slice.result.now))
+    (sym starts) c.with_definitions.ensures)

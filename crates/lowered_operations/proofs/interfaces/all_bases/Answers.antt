@@ -18,8 +18,10 @@ loop-place-preserved c =
             let inserted = w.in_ok-insert_each.ensures in
             let is = w.all-is in
             let new : c.match-base.all.keys ≡ fold with_once w.insert.new.self.keys w.all_bases_of.result.now = cc in
-            above_more c.args.table.now bases k w.in-Some.base c.loop-place.all.keys w.insert.new.self.keys c.match-base.all.keys w.all_bases_of.result.now _
-            (sym c.base.ensures ∙ w.in-Some.is) w.in_ok-insert.ensures.keys w.all_bases_of.ensures new c.loop-place.invariant.told
+            above_more c.args.table.now bases k w.in-Some.base c.loop-place.all.keys w.insert.new.self.keys
+            c.match-base.all.keys w.all_bases_of.result.now _
+            (sym c.base.ensures ∙ w.in-Some.is) w.in_ok-insert.ensures.keys w.all_bases_of.ensures new
+            c.loop-place.invariant.told
         | in_default w ↦ absurd (absent bases k lt (sym c.base.ensures ∙ w.in_default.is))
       ];
     }

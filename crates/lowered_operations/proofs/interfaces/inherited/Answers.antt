@@ -18,7 +18,8 @@ loop-k-preserved c =
             let inserted = w.in_ok-insert_each.ensures in
             let is = w.places-is in
             let new : c.match-base.places.keys ≡ fold with_once c.loop-k.places.keys w.operations_of.result.now = cc in
-            base_more c.args.table.now bases k w.in-Some.base c.loop-k.places.keys c.match-base.places.keys w.operations_of.result.now _
+            base_more c.args.table.now bases k w.in-Some.base c.loop-k.places.keys c.match-base.places.keys
+            w.operations_of.result.now _
             (sym c.base.ensures ∙ w.in-Some.is) w.operations_of.ensures new c.loop-k.invariant.told
         | in_default w ↦ absurd (absent bases k lt (sym c.base.ensures ∙ w.in_default.is))
       ];

@@ -8,6 +8,7 @@ use Rattle.lowered_types.proofs.types.lower_declarators.Given as goal
 abbrev pub invariant-loop-declarator : goal.invariant-loop-declarator
 invariant-loop-declarator l = record {
   inside : l.scope.0 ≤ length l.names.entries;
-  told : each (with_declarator l.names.entries l.scope.0 l.number) (with_members_of l.table l.members) (parts_left l.declarator-iterator)
+  told : each (with_declarator l.names.entries l.scope.0 l.number) (with_members_of l.table l.members)
+      (parts_left l.declarator-iterator)
       ≡ with_declarators l.names.entries l.scope.0 (already l.fn.table l.number) l.fn.members l.declarators;
 }

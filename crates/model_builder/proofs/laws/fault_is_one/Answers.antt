@@ -16,6 +16,9 @@ returns c = λ definitions names one other f g. by definitions names one other f
     by definitions names one other (inr late) (inl told) = absurd (lowered_or_not late.told told)
     by definitions names one other (inr late) (inr again) =
         let first = late.late in
-        let second : IsFaultOfPaths late.lowered.types other = subst (λ d. IsFaultOfPaths d.types other) (lowered_once again.told late.told) again.late in
-        first.told ∙ ap path_told (c.path_fault_is_one.ensures late.lowered.types.nodes 14 late.lowered.types.sites first.path second.path first.is second.is)
+        let second : IsFaultOfPaths late.lowered.types other =
+        subst (λ d. IsFaultOfPaths d.types other) (lowered_once again.told late.told) again.late in
+        first.told ∙ ap path_told
+        (c.path_fault_is_one.ensures late.lowered.types.nodes 14 late.lowered.types.sites first.path second.path
+        first.is second.is)
         ∙ sym second.told

@@ -15,6 +15,8 @@ returns c = λ definitions names model fault s f. by definitions names model fau
         → Shows definitions names model → IsFault definitions names fault → ⊥
     by definitions names model fault s (inl told) = lowered_or_not s.told told
     by definitions names model fault s (inr late) =
-        let path : IsFaultOfPaths s.lowered.types fault = subst (λ d. IsFaultOfPaths d.types fault) (lowered_once late.told s.told) late.late in
+        let path : IsFaultOfPaths s.lowered.types fault =
+        subst (λ d. IsFaultOfPaths d.types fault) (lowered_once late.told s.told) late.late in
         let rules = subst IsModel s.shows.parts s.shows.rules in
-        c.fault_is_of_long_paths.ensures s.lowered.types.nodes 14 s.lowered.types.sites path.path path.is rules.graph.shallow
+        c.fault_is_of_long_paths.ensures s.lowered.types.nodes 14 s.lowered.types.sites path.path path.is
+        rules.graph.shallow

@@ -7,15 +7,19 @@ pub unreachable-requires : goal.unreachable-requires
 unreachable-requires c =
     let types = c.without_sites-types.result in
     let right : IsModel (model_of c.args.names.now (defined types c.args.signatures.items c.args.offered.items)) =
-    subst (λ t. IsModel (model_of c.args.names.now (defined t c.args.signatures.items c.args.offered.items))) (sym c.without_sites-types.ensures)
+    subst (λ t. IsModel (model_of c.args.names.now (defined t c.args.signatures.items c.args.offered.items)))
+    (sym c.without_sites-types.ensures)
     (c.requires.model (c.requires.graph c.in_ok-check_paths.ensures.shallow)) in
     search rules
 
 pub returns-in-Ok-clause-shows : goal.returns-in-Ok-clause-shows
 returns-in-Ok-clause-shows c =
     let types = c.without_sites-types.result in
-    let shown : IsModelOf c.args.names.now (defined types c.args.signatures.items c.args.offered.items) c.in-Ok.model = search rules in
+    let shown : IsModelOf c.args.names.now (defined types c.args.signatures.items c.args.offered.items) c.in-Ok.model =
+    search rules in
     record {
-      parts = subst (λ t. c.in-Ok.model ≡ model_of c.args.names.now (defined t c.args.signatures.items c.args.offered.items)) c.without_sites-types.ensures shown.parts;
+      parts = subst (λ t. c.in-Ok.model
+          ≡ model_of c.args.names.now (defined t c.args.signatures.items c.args.offered.items))
+          c.without_sites-types.ensures shown.parts;
       rules = shown.rules;
     }

@@ -6,5 +6,6 @@ use Rattle.model_builder.proofs.naming.names_of.Given as goal
 -- the names so far, and those of the entries that are left
 abbrev pub invariant-loop-entry : goal.invariant-loop-entry
 invariant-loop-entry l =
-    l.list.items ++ flat_map (names_at l.names.entries l.types) (range_with_len l.entry (length l.names.entries - l.entry))
+    l.list.items ++ flat_map (names_at l.names.entries l.types)
+    (range_with_len l.entry (length l.names.entries - l.entry))
     ≡ names_of l.names.entries l.types

@@ -11,9 +11,11 @@ loop-own-preserved c =
     let rest = into_iter_items c.next.new.self in
     record {
       told = ap (λ l. l ++ rest) c.in_ok-push.ensures.items ∙ append_snoc done c.new.result rest
-          ∙ ap (λ o. done ++ o ∷ rest) (c.new.ensures ∙ c.into_vec.ensures) ∙ sym (ap (λ l. done ++ l) c.in-Some.ensures.steps.0)
+          ∙ ap (λ o. done ++ o ∷ rest) (c.new.ensures ∙ c.into_vec.ensures)
+          ∙ sym (ap (λ l. done ++ l) c.in-Some.ensures.steps.0)
           ∙ c.loop-own.invariant.told;
-      apart = All-tail AreApart c.in-Some.own rest (subst (All AreApart) c.in-Some.ensures.steps.0 c.loop-own.invariant.apart);
+      apart = All-tail AreApart c.in-Some.own rest
+          (subst (All AreApart) c.in-Some.ensures.steps.0 c.loop-own.invariant.apart);
     }
 
 pub new-requires : goal.new-requires

@@ -33,5 +33,6 @@ loop-offered-preserved c =
           ∙ ap (λ l. done ++ l) (one_more names e c.in-Some.offered rest)
           ∙ sym (ap (λ l. done ++ interfaces_from names e l) c.in-Some.ensures.steps.0) ∙ c.loop-offered.invariant.told;
       count = omega (arith, left, c.loop-offered.invariant.count);
-      theirs = All-tail Theirs c.in-Some.offered rest (subst (All Theirs) c.in-Some.ensures.steps.0 c.loop-offered.invariant.theirs);
+      theirs = All-tail Theirs c.in-Some.offered rest
+          (subst (All Theirs) c.in-Some.ensures.steps.0 c.loop-offered.invariant.theirs);
     }

@@ -13,8 +13,11 @@ loop-signature-preserved c =
     let done = c.loop-signature.list.items in
     let rest = into_iter_items c.next.new.self in
     record {
-      told = ap (λ l. l ++ map its rest) c.in_ok-push.ensures.items ∙ append_snoc done c.in_ok-operation_of.field-0 (map its rest)
-          ∙ ap (λ o. done ++ o ∷ map its rest) c.in_ok-operation_of.ensures ∙ sym (ap (λ l. done ++ map its l) c.in-Some.ensures.steps.0)
+      told = ap (λ l. l ++ map its rest) c.in_ok-push.ensures.items
+          ∙ append_snoc done c.in_ok-operation_of.field-0 (map its rest)
+          ∙ ap (λ o. done ++ o ∷ map its rest) c.in_ok-operation_of.ensures
+          ∙ sym (ap (λ l. done ++ map its l) c.in-Some.ensures.steps.0)
           ∙ c.loop-signature.invariant.told;
-      theirs = All-tail Theirs c.in-Some.signature rest (subst (All Theirs) c.in-Some.ensures.steps.0 c.loop-signature.invariant.theirs);
+      theirs = All-tail Theirs c.in-Some.signature rest
+          (subst (All Theirs) c.in-Some.ensures.steps.0 c.loop-signature.invariant.theirs);
     }

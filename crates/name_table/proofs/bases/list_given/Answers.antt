@@ -18,13 +18,17 @@ loop-word-preserved c =
     let all = c.args.heir.now.others.entries in
     let left = c.loop-word.word-iterator in
     let ws = c.loop-word.words.items in
-    let split = rest_more deref_pair left c.next.new.self c.next.result (c.in-Some.word, c.in-Some.field-0-1) c.in-Some.is c.next.ensures.steps in
+    let split = rest_more deref_pair left c.next.new.self c.next.result (c.in-Some.word, c.in-Some.field-0-1)
+    c.in-Some.is c.next.ensures.steps in
     record {
-      kept = λ name has. subst (λ xs. HasWord xs name) (sym c.in_ok-push.ensures.items) (HasWord_push ws c.in-Some.word.now name (c.loop-word.invariant.kept name has));
-      listed = λ name. entry_listed all left c.next.new.self c.in-Some.word.now c.in-Some.field-0-1.now ws c.push.new.self.items name split c.in_ok-push.ensures.items (c.loop-word.invariant.listed name);
+      kept = λ name has. subst (λ xs. HasWord xs name) (sym c.in_ok-push.ensures.items)
+          (HasWord_push ws c.in-Some.word.now name (c.loop-word.invariant.kept name has));
+      listed = λ name. entry_listed all left c.next.new.self c.in-Some.word.now c.in-Some.field-0-1.now ws
+          c.push.new.self.items name split c.in_ok-push.ensures.items (c.loop-word.invariant.listed name);
     }
 
 pub returns-clause-listed : goal.returns-clause-listed
 returns-clause-listed c = λ name.
     subst (λ left. is_listed c.args.heir.now.others.entries left c.loop-word.words.items name)
-    (rest_all deref_pair c.loop-word.word-iterator c.next.new.self c.next.result c.in-None.is c.next.ensures.steps) (c.loop-word.invariant.listed name)
+    (rest_all deref_pair c.loop-word.word-iterator c.next.new.self c.next.result c.in-None.is c.next.ensures.steps)
+    (c.loop-word.invariant.listed name)

@@ -7,11 +7,14 @@ use Rattle.name_table.proofs.shortcuts.keep_way.Goals as goal
 
 pub loop-ways-preserved : goal.loop-ways-preserved
 loop-ways-preserved c = λ q.
-    ap (λ ws. way_at ws q) c.in_ok-push.ensures.items ∙ get_push way_in c.loop-ways.ways.items None q refl ∙ c.loop-ways.invariant q
+    ap (λ ws. way_at ws q) c.in_ok-push.ensures.items ∙ get_push way_in c.loop-ways.ways.items None q refl
+    ∙ c.loop-ways.invariant q
 
 pub returns-clause-kept : goal.returns-clause-kept
 returns-clause-kept c = λ q.
-    ways_set c.loop-ways.ways.items c.args.scope.0 (Some c.args.way) (omega arith) q ∙ ap (λ o. if nat_eq c.args.scope.0 q then Some c.args.way else o) (c.loop-ways.invariant q)
+    ways_set c.loop-ways.ways.items c.args.scope.0 (Some c.args.way) (omega arith) q
+    ∙ ap (λ o. if nat_eq c.args.scope.0 q then Some c.args.way else o) (c.loop-ways.invariant q)
 
 pub returns-in_err-push-clause-err : goal.returns-in_err-push-clause-err
-returns-in_err-push-clause-err c = on_err c.from_residual.result (λ q. ap (λ ws. way_at ws q) c.in_err-push.ensures.items ∙ c.loop-ways.invariant q)
+returns-in_err-push-clause-err c =
+    on_err c.from_residual.result (λ q. ap (λ ws. way_at ws q) c.in_err-push.ensures.items ∙ c.loop-ways.invariant q)

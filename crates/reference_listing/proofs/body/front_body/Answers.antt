@@ -14,8 +14,10 @@ pub returns-in_default : goal.returns-in_default
 returns-in_default c = record {
   found = tt;
   within = tt;
-  refused = λ body behind f. some_body c.args.octets.now c.args.order c.args.later c.node_of.result c.in-Some.read.0.items
-      c.as_slice.result.now c.in-Some.read.1 c.node_of.ensures.node c.as_slice.ensures.value (some_then c.in_ok-read.field-0 c.in-Some.read _ c.in-Some.is c.in_ok-read.ensures.found)
+  refused = λ body behind f. some_body c.args.octets.now c.args.order c.args.later c.node_of.result
+      c.in-Some.read.0.items
+      c.as_slice.result.now c.in-Some.read.1 c.node_of.ensures.node c.as_slice.ensures.value
+      (some_then c.in_ok-read.field-0 c.in-Some.read _ c.in-Some.is c.in_ok-read.ensures.found)
       (no_tape c.in-Err.fault _ c.in_default.not-NoMemory c.in-Err.ensures.refused);
 }
 
@@ -23,7 +25,8 @@ pub returns-then-body-ne1-clause-refused : goal.returns-then-body-ne1-clause-ref
 returns-then-body-ne1-clause-refused c = λ body behind f.
     let v = same_version c.args.octets.now c.args.order c.args.later c.node_of.result c.in-Some.read.0.items
     c.as_slice.result.now c.in-Some.read.1 (body_of c.in-Ok.body) c.node_of.ensures.node c.as_slice.ensures.value
-    (some_then c.in_ok-read.field-0 c.in-Some.read _ c.in-Some.is c.in_ok-read.ensures.found) c.in-Ok.ensures.found body behind f in
+    (some_then c.in_ok-read.field-0 c.in-Some.read _ c.in-Some.is c.in_ok-read.ensures.found) c.in-Ok.ensures.found body
+    behind f in
     elim c.then-body-ne1.branch [
       | then-body-ne1-via-then-body-ne1 w ↦ w.if-body-ne1.true v.0
       | then-body-ne1-via-else-body-ne1+then-is_later-later w ↦ bools_differ w.is_later.result c.args.later
@@ -32,7 +35,9 @@ returns-then-body-ne1-clause-refused c = λ body behind f.
 
 pub returns-clause-found : goal.returns-clause-found
 returns-clause-found c =
-    front_found c.args.octets.now c.args.order c.args.later c.node_of.result c.in-Some.read.0.items c.as_slice.result.now
-    c.in-Some.read.1 (body_of c.in-Ok.body) c.node_of.ensures.node c.as_slice.ensures.value (some_then c.in_ok-read.field-0 c.in-Some.read _ c.in-Some.is c.in_ok-read.ensures.found)
+    front_found c.args.octets.now c.args.order c.args.later c.node_of.result c.in-Some.read.0.items
+    c.as_slice.result.now
+    c.in-Some.read.1 (body_of c.in-Ok.body) c.node_of.ensures.node c.as_slice.ensures.value
+    (some_then c.in_ok-read.field-0 c.in-Some.read _ c.in-Some.is c.in_ok-read.ensures.found)
     c.in-Ok.ensures.found c.if-body-ne1.false
     (sym c.is_later.ensures ∙ bools_same c.is_later.result c.args.later c.if-is_later-later.false)

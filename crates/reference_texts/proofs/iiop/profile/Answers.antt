@@ -14,7 +14,8 @@ returns-in-Ok-clause-written c =
 pub returns-in-Ok-clause-refused : goal.returns-in-Ok-clause-refused
 returns-in-Ok-clause-refused c =
     err_weaker c.write_encapsulation.result _ _
-    (λ none octets is. none octets (profile_unwritten c.args.host.now c.args.port c.args.key.now c.as_slice.result.now octets
+    (λ none octets is. none octets
+    (profile_unwritten c.args.host.now c.args.port c.args.key.now c.as_slice.result.now octets
     (c.as_slice.ensures.value ∙ c.in-Ok.ensures.tape) is)) c.write_encapsulation.ensures.refused
 
 pub returns-in-Err-clause-refused : goal.returns-in-Err-clause-refused

@@ -25,4 +25,5 @@ returns-clause-found c =
     (c.in_ok-behind.ensures.items ∙ c.split_at.ensures.back)
     (subst (λ (l : List ℕ). Means giop_nodes (reading order) 64 node 1 tape l) (sym c.split_at.ensures.front)
     c.in-Ok.ensures.found)
-    (subst (λ (t : List ℕ). AreGaps order node t front c.in_ok-gaps.gaps.items) c.as_slice.ensures.value c.in_ok-gaps.ensures)
+    (subst (λ (t : List ℕ). AreGaps order node t front c.in_ok-gaps.gaps.items) c.as_slice.ensures.value
+    c.in_ok-gaps.ensures)

@@ -6,7 +6,8 @@ use Rattle.reference_texts.proofs.text.encapsulation_in.Goals as goal
 
 pub returns-in_default-clause-refused : goal.returns-in_default-clause-refused
 returns-in_default-clause-refused c = λ octets s.
-    c.in_default.ensures.refused s.digits (subst (λ (t : List ℕ). HasDigits t s.digits) (sym c.as_bytes.ensures.value) s.behind)
+    c.in_default.ensures.refused s.digits
+    (subst (λ (t : List ℕ). HasDigits t s.digits) (sym c.as_bytes.ensures.value) s.behind)
 
 pub returns-clause-refused : goal.returns-clause-refused
 returns-clause-refused c =

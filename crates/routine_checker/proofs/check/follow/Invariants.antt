@@ -5,4 +5,5 @@ use Rattle.routine_checker.proofs.check.follow.Given as goal
 
 abbrev pub invariant-loop-n : goal.invariant-loop-n
 invariant-loop-n l = (work rest : List ℕ) → work_behind l.graph l.program l.routine.code l.n work ≡ Some rest
-    → followed l.graph l.program l.at 0 l.routine.code (state_of work l.fn.start) ≡ followed l.graph l.program l.at l.n (drop l.n l.routine.code) (state_of rest l.reached)
+    → followed l.graph l.program l.at 0 l.routine.code (state_of work l.fn.start)
+    ≡ followed l.graph l.program l.at l.n (drop l.n l.routine.code) (state_of rest l.reached)

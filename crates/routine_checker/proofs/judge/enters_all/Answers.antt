@@ -10,11 +10,13 @@ returns-then-arms_enter c =
     let test = λ (routine : ℕ). is_within c.args.from (entry_at c.args.program.now routine) in
     let others = list_all test (option_to_list c.args.otherwise) in
     c.enters_otherwise-other_enters.ensures
-    ∙ sym (all_arms test c.args.arms.now c.args.otherwise ∙ ap (λ b. b && others) (sym c.enters_arms-arms_enter.ensures ∙ c.if-arms_enter.true))
+    ∙ sym (all_arms test c.args.arms.now c.args.otherwise
+    ∙ ap (λ b. b && others) (sym c.enters_arms-arms_enter.ensures ∙ c.if-arms_enter.true))
 
 pub returns-else-arms_enter : goal.returns-else-arms_enter
 returns-else-arms_enter c =
     let test = λ (routine : ℕ). is_within c.args.from (entry_at c.args.program.now routine) in
     let others = list_all test (option_to_list c.args.otherwise) in
     c.if-arms_enter.false
-    ∙ sym (all_arms test c.args.arms.now c.args.otherwise ∙ ap (λ b. b && others) (sym c.enters_arms-arms_enter.ensures ∙ c.if-arms_enter.false))
+    ∙ sym (all_arms test c.args.arms.now c.args.otherwise
+    ∙ ap (λ b. b && others) (sym c.enters_arms-arms_enter.ensures ∙ c.if-arms_enter.false))

@@ -8,7 +8,8 @@ use Rattle.routine_checker.proofs.judge.left_by.Goals as goal
 
 pub loop-arm-init : goal.loop-arm-init
 loop-arm-init c =
-    ap (λ set. bit_or set (left_by c.args.program.now c.args.places (map (λ (arm : ℤ × ℕ). arm.1) c.args.arms.now))) c.left_otherwise-ends.ensures
+    ap (λ set. bit_or set (left_by c.args.program.now c.args.places (map (λ (arm : ℤ × ℕ). arm.1) c.args.arms.now)))
+    c.left_otherwise-ends.ensures
     ∙ left_from c.args.program.now c.args.places c.args.arms.now c.args.otherwise
 
 pub loop-arm-preserved : goal.loop-arm-preserved
@@ -25,5 +26,7 @@ pub returns : goal.returns
 returns c =
     let past : length c.args.arms.now ≤ c.loop-arm.arm-index = omega (arith, c.loop-arm-test.false) in
     sym (or_zero_r c.loop-arm.ends)
-    ∙ sym (ap (λ (more : List (ℤ × ℕ)). bit_or c.loop-arm.ends (left_by c.args.program.now c.args.places (map (λ (arm : ℤ × ℕ). arm.1) more))) (drop_all c.loop-arm.arm-index c.args.arms.now past))
+    ∙ sym (ap (λ (more : List (ℤ × ℕ)). bit_or c.loop-arm.ends
+    (left_by c.args.program.now c.args.places (map (λ (arm : ℤ × ℕ). arm.1) more)))
+    (drop_all c.loop-arm.arm-index c.args.arms.now past))
     ∙ c.loop-arm.invariant

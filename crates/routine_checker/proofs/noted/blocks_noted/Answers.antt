@@ -17,13 +17,16 @@ loop-at-preserved c =
     let within = c.loop-at.invariant.0 in
     let fits : n ≤ wanted - c.loop-at.taken = omega (arith, c.if-count-from.false, c.from.ensures) in
     let some : 0 < n = omega (arith, c.if-count-eq0.false) in
-    let split : rest ≡ block ++ behind = sym (take-append-drop 16 rest) ∙ ap₂ (λ a b. a ++ b) (sym c.split_at.ensures.front) (sym c.split_at.ensures.back) in
+    let split : rest ≡ block ++ behind = sym (take-append-drop 16 rest)
+    ∙ ap₂ (λ a b. a ++ b) (sym c.split_at.ensures.front) (sym c.split_at.ensures.back) in
     let place : at * 16 + 16 ≡ (at + 1) * 16 = omega arith in (
       omega (arith, fits, within),
-      c.split_at.ensures.back ∙ ap (λ l. drop 16 l) c.loop-at.invariant.1 ∙ drop-drop 16 (at * 16) numbers ∙ ap (λ i. drop i numbers) place,
+      c.split_at.ensures.back ∙ ap (λ l. drop 16 l) c.loop-at.invariant.1 ∙ drop-drop 16 (at * 16) numbers
+          ∙ ap (λ i. drop i numbers) place,
       λ graph piece noted more.
           let of = is_piece_of piece graph in
           c.loop-at.invariant.2 graph piece noted more
           ∙ ap (λ l. taken (wanted - c.loop-at.taken) of graph (l ++ more)) split
-          ∙ block_more graph of block behind more wanted c.loop-at.taken n fits (λ more. c.sum_noted-count.ensures graph piece noted some more),
+          ∙ block_more graph of block behind more wanted c.loop-at.taken n fits
+          (λ more. c.sum_noted-count.ensures graph piece noted some more),
     )

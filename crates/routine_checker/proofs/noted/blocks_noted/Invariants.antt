@@ -9,4 +9,5 @@ use Rattle.routine_checker.proofs.noted.blocks_noted.Given as goal
 abbrev pub invariant-loop-at : goal.invariant-loop-at
 invariant-loop-at l = (l.taken ≤ l.wanted) × (l.rest ≡ drop (l.at * 16) l.numbers)
     × ((graph : List Node) (piece : Piece) → IsNoted graph piece l.counts → (more : List ℕ)
-    → taken l.wanted (is_piece_of piece graph) graph (l.numbers ++ more) ≡ taken (l.wanted - l.taken) (is_piece_of piece graph) graph (l.rest ++ more))
+    → taken l.wanted (is_piece_of piece graph) graph (l.numbers ++ more)
+    ≡ taken (l.wanted - l.taken) (is_piece_of piece graph) graph (l.rest ++ more))

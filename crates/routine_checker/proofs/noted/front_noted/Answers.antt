@@ -14,7 +14,9 @@ loop-at-preserved c =
       omega (arith, fits, within),
       λ graph piece noted more.
           let wanted = is_piece_of piece graph in
-          let counted = noted (get_or numbers at 0) (subst (λ k. 0 < k) c.count_at-count.ensures some) ∙ sym c.count_at-count.ensures in
+          let counted = noted (get_or numbers at 0) (subst (λ k. 0 < k) c.count_at-count.ensures some)
+          ∙ sym c.count_at-count.ensures in
           c.loop-at.invariant.1 graph piece noted more
-          ∙ front_more graph wanted numbers more at c.args.wanted c.loop-at.taken n 0 c.loop-at-test.true (counted_yields graph wanted wanted (get_or numbers at 0) n refl some counted) fits,
+          ∙ front_more graph wanted numbers more at c.args.wanted c.loop-at.taken n 0 c.loop-at-test.true
+          (counted_yields graph wanted wanted (get_or numbers at 0) n refl some counted) fits,
     )

@@ -22,7 +22,10 @@ loop-at-preserved c =
           let wanted = is_piece_of piece graph in
           let here : 0 < n = omega (arith, some, least) in
           let before : 0 < c.loop-at.least = omega (arith, some, least) in
-          let counted = noted (get_or numbers at 0) (subst (λ k. 0 < k) c.count_at-count.ensures here) ∙ sym c.count_at-count.ensures in
+          let counted = noted (get_or numbers at 0) (subst (λ k. 0 < k) c.count_at-count.ensures here)
+          ∙ sym c.count_at-count.ensures in
           subst (λ k. taken (c.loop-at.sum + k) wanted graph (take (at + 1) numbers ++ more) ≡ Some more) (sym same)
-          (took_more graph wanted numbers more at c.loop-at.sum n 0 c.loop-at-test.true (c.loop-at.invariant.1 graph piece noted before) (counted_yields graph wanted wanted (get_or numbers at 0) n refl here counted)),
+          (took_more graph wanted numbers more at c.loop-at.sum n 0 c.loop-at-test.true
+          (c.loop-at.invariant.1 graph piece noted before)
+          (counted_yields graph wanted wanted (get_or numbers at 0) n refl here counted)),
     )

@@ -10,14 +10,16 @@ loop-round-preserved c =
     let round = c.loop-round.round in
     let fewer : 8 - (round + 1) ≡ 8 - round - 1 = omega arith in
     let left_over : 0 < 8 - round = omega (arith, c.loop-round-test.true) in
-    ap (λ n. closure n exits (bit_or starts c.left.result)) fewer ∙ ap (λ more. closure (8 - round - 1) exits (bit_or starts more)) c.left.ensures
+    ap (λ n. closure n exits (bit_or starts c.left.result)) fewer
+    ∙ ap (λ more. closure (8 - round - 1) exits (bit_or starts more)) c.left.ensures
     ∙ sym (closure_next (8 - round) exits starts left_over) ∙ c.loop-round.invariant
 
 pub returns-then-more-starts : goal.returns-then-more-starts
 returns-then-more-starts c =
     let exits = c.args.exits.now in
     let starts = c.loop-round.starts in
-    sym (closure_still (8 - c.loop-round.round) exits starts (ap (bit_or starts) (sym c.left.ensures) ∙ c.if-more-starts.true)) ∙ c.loop-round.invariant
+    sym (closure_still (8 - c.loop-round.round) exits starts
+    (ap (bit_or starts) (sym c.left.ensures) ∙ c.if-more-starts.true)) ∙ c.loop-round.invariant
 
 pub returns : goal.returns
 unfolding closure

@@ -8,4 +8,5 @@ use Rattle.routine_checker.proofs.sets.gaps_serve.Goals as goal
 pub returns : goal.returns
 returns c =
     c.is_within.ensures ∙ ap (λ other. is_within c.args.set (bit_or other c.agreeing-2.result)) c.agreeing.ensures
-    ∙ ap (λ other. is_within c.args.set (bit_or (agreeing c.args.made One) other)) c.agreeing-2.ensures ∙ serve_within c.args.set c.args.made c.args.lead
+    ∙ ap (λ other. is_within c.args.set (bit_or (agreeing c.args.made One) other)) c.agreeing-2.ensures
+    ∙ serve_within c.args.set c.args.made c.args.lead

@@ -12,7 +12,8 @@ returns-then-enters_one_by_one c =
     let cut : c.args.n ≡ 64 + (c.args.n - 64) = omega (arith, c.if-n-le-FOLLOWED.false) in
     c.enters_behind.ensures ∙ ap (enters_times more entry exits) c.left_one_by_one-behind.ensures
     ∙ sym (ap (λ k. enters_times k entry exits places) cut ∙ enters_add 64 more entry exits places
-    ∙ ap (λ b. b && enters_times more entry exits (times_left 64 exits places)) (sym c.enters_one_by_one-2.ensures ∙ c.if-enters_one_by_one.true))
+    ∙ ap (λ b. b && enters_times more entry exits (times_left 64 exits places))
+    (sym c.enters_one_by_one-2.ensures ∙ c.if-enters_one_by_one.true))
 
 pub returns-else-enters_one_by_one : goal.returns-else-enters_one_by_one
 returns-else-enters_one_by_one c =
@@ -23,4 +24,5 @@ returns-else-enters_one_by_one c =
     let cut : c.args.n ≡ 64 + (c.args.n - 64) = omega (arith, c.if-n-le-FOLLOWED.false) in
     c.if-enters_one_by_one.false
     ∙ sym (ap (λ k. enters_times k entry exits places) cut ∙ enters_add 64 more entry exits places
-    ∙ ap (λ b. b && enters_times more entry exits (times_left 64 exits places)) (sym c.enters_one_by_one-2.ensures ∙ c.if-enters_one_by_one.false))
+    ∙ ap (λ b. b && enters_times more entry exits (times_left 64 exits places))
+    (sym c.enters_one_by_one-2.ensures ∙ c.if-enters_one_by_one.false))

@@ -16,4 +16,5 @@ loop-time-preserved c =
 pub returns : goal.returns
 returns c =
     let none : c.args.n - c.loop-time.time ≡ 0 = omega (arith, c.loop-time-test.false) in
-    sym (left_none c.args.exits.now c.loop-time.ends) ∙ sym (ap (λ k. times_left k c.args.exits.now c.loop-time.ends) none) ∙ c.loop-time.invariant
+    sym (left_none c.args.exits.now c.loop-time.ends)
+    ∙ sym (ap (λ k. times_left k c.args.exits.now c.loop-time.ends) none) ∙ c.loop-time.invariant

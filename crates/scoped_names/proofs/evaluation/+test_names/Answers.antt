@@ -21,5 +21,6 @@ test_names-requires-in-loop-part t c =
     let d = c.decreases in
     let whole = ap weight c.in-Chain.is ∙ chain_weight c.in-Chain.first c.in-Chain.rest in
     let all = ap list_weight c.deref-part-items.ensures.value in
-    let part = weight_at c.deref-part-items.result.now c.loop-part.part-index c.part-item.result lt (sym c.part-item.is) in
+    let part = weight_at c.deref-part-items.result.now c.loop-part.part-index c.part-item.result lt (sym c.part-item.is)
+    in
     (omega (arith, d, whole, all, part), c.requires)

@@ -32,14 +32,17 @@ worth-requires-in-loop-part t c =
     let d = c.decreases in
     let whole = ap weight c.in-Chain.is ∙ chain_weight c.in-Chain.first c.in-Chain.rest in
     let all = ap list_weight c.deref-part-items.ensures.value in
-    let part = weight_at c.deref-part-items.result.now c.loop-part.part-index c.part-item.result lt (sym c.part-item.is) in
+    let part = weight_at c.deref-part-items.result.now c.loop-part.part-index c.part-item.result lt (sym c.part-item.is)
+    in
     (omega (arith, d, whole, all, part), c.requires)
 
 pub loop-part-init : goal.loop-part-init
 loop-part-init t c =
     let names = named_worth c.args.table.now c.args.scope.0 in
-    chain_begins names c.in-Chain.first c.in-Chain.rest c.args.expr.now c.deref-in-Chain.result.now c.in_ok-worth-in-Chain.field-0 c.deref-part-items.result.now c.whole-value-in-Chain.result
-    c.in-Chain.is c.deref-in-Chain.ensures c.deref-part-items.ensures.value c.in_ok-worth-in-Chain.ensures c.whole-value-in-Chain.ensures
+    chain_begins names c.in-Chain.first c.in-Chain.rest c.args.expr.now c.deref-in-Chain.result.now
+    c.in_ok-worth-in-Chain.field-0 c.deref-part-items.result.now c.whole-value-in-Chain.result
+    c.in-Chain.is c.deref-in-Chain.ensures c.deref-part-items.ensures.value c.in_ok-worth-in-Chain.ensures
+    c.whole-value-in-Chain.ensures
 
 pub loop-part-preserved : goal.loop-part-preserved
 loop-part-preserved t c =
@@ -47,5 +50,6 @@ loop-part-preserved t c =
     let xs = c.deref-part-items.result.now in
     let k = c.loop-part.part-index in
     let lt : k < length xs = omega arith in
-    chain_goes_on names xs k c.part-item.result c.loop-part.value c.in_ok-worth-in-Chain-2.field-0 c.whole-operand.result c.joined-value.result (worth names c.args.expr.now) lt (sym c.part-item.is)
+    chain_goes_on names xs k c.part-item.result c.loop-part.value c.in_ok-worth-in-Chain-2.field-0
+    c.whole-operand.result c.joined-value.result (worth names c.args.expr.now) lt (sym c.part-item.is)
     c.loop-part.invariant c.in_ok-worth-in-Chain-2.ensures c.whole-operand.ensures c.joined-value.ensures

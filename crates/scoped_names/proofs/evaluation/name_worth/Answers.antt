@@ -7,4 +7,5 @@ use Rattle.scoped_names.proofs.evaluation.name_worth.Goals as goal
 pub returns-in-Err : goal.returns-in-Err
 returns-in-Err c =
     let name = c.args.name.now in
-    sym (not_found c.args.table.now (at (name_start name)) (sees c.args.table.now c.args.scope.0 name) _ (sym c.resolve.ensures.told ∙ c.in-Err.is))
+    sym (not_found c.args.table.now (at (name_start name)) (sees c.args.table.now c.args.scope.0 name) _
+    (sym c.resolve.ensures.told ∙ c.in-Err.is))

@@ -5,7 +5,9 @@ use Rattle.scoped_names.proofs.members.make_room.Goals as goal
 
 pub loop-alloc-preserved : goal.loop-alloc-preserved
 loop-alloc-preserved c = λ s.
-    ap (λ ls. leaves_at ls s) c.in_ok-push.ensures.items ∙ first_room c.loop-alloc.few.items c.new.result c.new.ensures.items s ∙ c.loop-alloc.invariant s
+    ap (λ ls. leaves_at ls s) c.in_ok-push.ensures.items
+    ∙ first_room c.loop-alloc.few.items c.new.result c.new.ensures.items s ∙ c.loop-alloc.invariant s
 
 pub returns-in_err-push-clause-same : goal.returns-in_err-push-clause-same
-returns-in_err-push-clause-same c = λ s. ap (λ ls. leaves_at ls s) c.in_err-push.ensures.items ∙ c.loop-alloc.invariant s
+returns-in_err-push-clause-same c = λ s. ap (λ ls. leaves_at ls s) c.in_err-push.ensures.items
+    ∙ c.loop-alloc.invariant s

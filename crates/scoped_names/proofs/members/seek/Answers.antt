@@ -13,7 +13,8 @@ returns-then-eq_ignore_ascii_case c =
     let k = c.loop-identifier.identifier-index in
     let lt : k < length ls = omega arith in
     let same : same_but_for_case name (word l) ≡ true =
-    sym (case_told c.eq_ignore_ascii_case.result name c.name.result.now c.eq_ignore_ascii_case.ensures.test ∙ ap (same_but_for_case name) c.name.ensures) ∙ c.if-eq_ignore_ascii_case.true in
+    sym (case_told c.eq_ignore_ascii_case.result name c.name.result.now c.eq_ignore_ascii_case.ensures.test
+    ∙ ap (same_but_for_case name) c.name.ensures) ∙ c.if-eq_ignore_ascii_case.true in
     ap Some c.at.ensures ∙ sym (sought_here ls k name l lt c.identifier-item.is same) ∙ sym c.loop-identifier.invariant
 
 pub loop-identifier-preserved : goal.loop-identifier-preserved
@@ -25,5 +26,7 @@ loop-identifier-preserved c =
     let lt : k < length ls = omega arith in
     let next : suc k ≡ k + 1 = omega arith in
     let other : same_but_for_case name (word l) ≡ false =
-    sym (case_told c.eq_ignore_ascii_case.result name c.name.result.now c.eq_ignore_ascii_case.ensures.test ∙ ap (same_but_for_case name) c.name.ensures) ∙ c.if-eq_ignore_ascii_case.false in
-    c.loop-identifier.invariant ∙ sought_on ls k name l lt c.identifier-item.is other ∙ ap (λ n. sought (drop n ls) name) next
+    sym (case_told c.eq_ignore_ascii_case.result name c.name.result.now c.eq_ignore_ascii_case.ensures.test
+    ∙ ap (same_but_for_case name) c.name.ensures) ∙ c.if-eq_ignore_ascii_case.false in
+    c.loop-identifier.invariant ∙ sought_on ls k name l lt c.identifier-item.is other
+    ∙ ap (λ n. sought (drop n ls) name) next

@@ -9,7 +9,8 @@ pub returns-then-key-many : goal.returns-then-key-many
 returns-then-key-many c =
     let key = c.args.key.now in
     c.copied.ensures ∙ c.get.ensures.value
-    ∙ ap (lookup (is_at (word_cmp key.word))) (sym (places_read c.args.many.now key.scope.0 c.index-many-key.result (omega arith) c.index-many-key.is))
+    ∙ ap (lookup (is_at (word_cmp key.word)))
+    (sym (places_read c.args.many.now key.scope.0 c.index-many-key.result (omega arith) c.index-many-key.is))
 
 pub returns-else-key-many : goal.returns-else-key-many
 returns-else-key-many c =

@@ -10,7 +10,8 @@ loop-outer-preserved c =
     let outer = c.in-Some.outer in
     let next : scope ≡ suc outer = omega arith in
     let low : outer < length es = (let le = c.loop-outer.invariant.within in omega arith) in
-    let step = path_step es c.len-count.ensures.nested scope outer c.scope-scope.result.0 c.name.result c.loop-outer.names.items c.push.new.self.items (path es c.args.entry)
+    let step = path_step es c.len-count.ensures.nested scope outer c.scope-scope.result.0 c.name.result
+    c.loop-outer.names.items c.push.new.self.items (path es c.args.entry)
     next low c.scope-scope.ensures c.name.ensures c.in_ok-push.ensures.items c.loop-outer.invariant.whole in
     record { within = step.0; whole = step.1 }
 

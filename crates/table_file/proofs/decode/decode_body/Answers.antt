@@ -11,12 +11,16 @@ pub returns-in_err-draft-clause-refused : goal.returns-in_err-draft-clause-refus
 returns-in_err-draft-clause-refused c =
     let p = err_from_is_err_and c.from_residual-in_err-draft.result c.from_residual-in_err-draft.ensures.1 in
     let octets = c.args.octets.now in
-    rw (p.1, p.2) (only_if_weaker (wants_memory c.in_err-draft.field-0.0) ((x : TableFields) → spelled_fields x ≡ Some octets → ⊥) (NoBody octets) (no_body octets) c.in_err-draft.ensures)
+    rw (p.1, p.2) (only_if_weaker (wants_memory c.in_err-draft.field-0.0)
+    ((x : TableFields) → spelled_fields x ≡ Some octets → ⊥) (NoBody octets) (no_body octets)
+    c.in_err-draft.ensures)
 
 pub returns-clause-spelled : goal.returns-clause-spelled
-returns-clause-spelled c = if_ok_body c.in_ok-draft.draft c.args.octets.now c.finish.result c.in_ok-draft.ensures c.finish.ensures.kept
+returns-clause-spelled c = if_ok_body c.in_ok-draft.draft c.args.octets.now c.finish.result c.in_ok-draft.ensures
+    c.finish.ensures.kept
 
 pub returns-clause-refused : goal.returns-clause-refused
 returns-clause-refused c =
     let draft = c.in_ok-draft.draft in
-    if_err_only c.finish.result (IsTable (table_from draft) → ⊥) (NoBody c.args.octets.now) (no_table draft c.args.octets.now c.in_ok-draft.ensures) c.finish.ensures.refused
+    if_err_only c.finish.result (IsTable (table_from draft) → ⊥) (NoBody c.args.octets.now)
+    (no_table draft c.args.octets.now c.in_ok-draft.ensures) c.finish.ensures.refused

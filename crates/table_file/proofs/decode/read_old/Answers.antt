@@ -4,4 +4,5 @@ use Rattle.table_file.proofs.decode.read_old.Goals as goal
 
 pub returns : goal.returns
 returns c =
-    whole_read spelled_old_fields old_code.one c.args.octets.now c.read-read.result c.finished.result _ _ c.new-cursor.ensures c.read-read.ensures c.finished.ensures.kept c.finished.ensures.refused
+    whole_read spelled_old_fields old_code.one c.args.octets.now c.read-read.result c.finished.result _ _
+    c.new-cursor.ensures c.read-read.ensures c.finished.ensures.kept c.finished.ensures.refused

@@ -10,4 +10,5 @@ returns-in_err-programs c =
 
 pub returns : goal.returns
 returns c =
-    uses_read c.in_ok-programs.programs _ c.read_run.result c.both.result _ _ _ (ap length c.as_slice-count.ensures) c.both.ensures c.in_ok-programs.ensures c.read_run.ensures
+    uses_read c.in_ok-programs.programs _ c.read_run.result c.both.result _ _ _ (ap length c.as_slice-count.ensures)
+    c.both.ensures c.in_ok-programs.ensures c.read_run.ensures

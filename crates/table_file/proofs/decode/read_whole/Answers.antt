@@ -4,4 +4,5 @@ use Rattle.table_file.proofs.decode.read_whole.Goals as goal
 
 pub returns : goal.returns
 returns c =
-    whole_read spelled_fields one_fields c.args.octets.now c.read_parts-read.result c.finished.result _ _ c.new-cursor.ensures c.read_parts-read.ensures c.finished.ensures.kept c.finished.ensures.refused
+    whole_read spelled_fields one_fields c.args.octets.now c.read_parts-read.result c.finished.result _ _
+    c.new-cursor.ensures c.read_parts-read.ensures c.finished.ensures.kept c.finished.ensures.refused

@@ -10,4 +10,6 @@ pub returns : goal.returns
 returns c =
     let fits : SFits w128 c.args.label = search rules in
     let sized : IsSignedIn 16 c.args.label = search rules in
-    label_octets c.args.label sized ∙ ap Some (sym (c.to_be_bytes.ensures ∙ ap (λ (z : ℤ). to_be_bytes w128 (cast_unsigned w128 z)) (to_z-of_z w128 c.args.label fits)))
+    label_octets c.args.label sized
+    ∙ ap Some (sym (c.to_be_bytes.ensures
+    ∙ ap (λ (z : ℤ). to_be_bytes w128 (cast_unsigned w128 z)) (to_z-of_z w128 c.args.label fits)))

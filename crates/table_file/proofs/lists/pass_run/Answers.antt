@@ -7,7 +7,8 @@ items-init g c = none_passed g.T.Part.spelled _
 
 pub returns-then-not-pass : goal.returns-then-not-pass
 returns-then-not-pass g c =
-    run_stops c.args.count g.T.Part.spelled g.met.T.Part.is_code g.met.T.Part.has_one c.items.place _ _ _ _ c.items-test.true
+    run_stops c.args.count g.T.Part.spelled g.met.T.Part.is_code g.met.T.Part.has_one c.items.place _ _ _ _
+    c.items-test.true
     c.if-not-pass.true c.items.invariant c.pass.ensures
 
 pub items-preserved : goal.items-preserved

@@ -11,4 +11,5 @@ returns-in_err-count-clause-refused g c =
 pub returns-then-count-len-clause-refused : goal.returns-then-count-len-clause-refused
 returns-then-count-len-clause-refused g c =
     list_reads g.T.Part.spelled c.in_ok-count.field-0 (Err _) _ _ c.read.new.cursor c.in_ok-count.ensures
-    (too_many g.T.Part.spelled g.met.T.Part.is_code c.in_ok-count.field-0 _ _ _ (beyond _ _ _ c.len.ensures c.if-count-len.true))
+    (too_many g.T.Part.spelled g.met.T.Part.is_code c.in_ok-count.field-0 _ _ _
+    (beyond _ _ _ c.len.ensures c.if-count-len.true))

@@ -9,7 +9,8 @@ returns-in_err-item g c =
     let long = c.items.invariant.long in
     let test = c.items-test.true in
     let room : length c.items.items.items < c.args.count = omega (arith, long, test) in
-    rw (p.1, p.2) (next_fails c.args.count g.T.Part.spelled g.met.T.Part.is_code c.items.items.items c.in_err-item.field-0.0 _ _ _ room c.items.invariant.so_far c.in_err-item.ensures)
+    rw (p.1, p.2) (next_fails c.args.count g.T.Part.spelled g.met.T.Part.is_code c.items.items.items
+    c.in_err-item.field-0.0 _ _ _ room c.items.invariant.so_far c.in_err-item.ensures)
 
 pub items-preserved : goal.items-preserved
 items-preserved g c =
@@ -17,8 +18,10 @@ items-preserved g c =
     let test = c.items-test.true in
     let room : length c.items.items.items < c.args.count = omega (arith, long, test) in
     let push = c.in_ok-push.ensures.items in
-    let longer : length c.push.new.self.items ≡ length c.items.items.items + 1 = ap length push ∙ length-append c.items.items.items (c.in_ok-item.item ∷ []) in
+    let longer : length c.push.new.self.items ≡ length c.items.items.items + 1 =
+    ap length push ∙ length-append c.items.items.items (c.in_ok-item.item ∷ []) in
     record {
       long = omega (arith, long, longer);
-      so_far = one_more c.args.count g.T.Part.spelled g.met.T.Part.is_code c.items.items.items c.push.new.self.items c.in_ok-item.item _ _ _ room push c.items.invariant.so_far c.in_ok-item.ensures;
+      so_far = one_more c.args.count g.T.Part.spelled g.met.T.Part.is_code c.items.items.items c.push.new.self.items
+          c.in_ok-item.item _ _ _ room push c.items.invariant.so_far c.in_ok-item.ensures;
     }

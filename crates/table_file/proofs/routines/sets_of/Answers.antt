@@ -5,4 +5,5 @@ use Rattle.table_file.proofs.routines.sets_of.Goals as goal
 
 pub returns : goal.returns
 returns c =
-    ap (spelled_run 8 spelled_octet) (eight c.args.octets.now c.requires) ∙ sets_spelled c.args.octets.now c.requires (λ i. omega (arith, c.type_inv.octets i))
+    ap (spelled_run 8 spelled_octet) (eight c.args.octets.now c.requires)
+    ∙ sets_spelled c.args.octets.now c.requires (λ i. omega (arith, c.type_inv.octets i))

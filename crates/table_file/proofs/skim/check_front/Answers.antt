@@ -15,7 +15,8 @@ returns-in_err-nodes c =
     let p = err_from_is_err_and c.from_residual.result c.from_residual.ensures.1 in
     let octets = c.args.octets.now in
     let left = c.read.new.cursor in
-    let read = subst (λ o. Reads (spelled_list spelled_node) (Err c.in_err-nodes.field-0.0) o left) c.new-cursor.ensures c.in_err-nodes.ensures in
+    let read = subst (λ o. Reads (spelled_list spelled_node) (Err c.in_err-nodes.field-0.0) o left) c.new-cursor.ensures
+    c.in_err-nodes.ensures in
     rw (p.1, p.2) (front_fails octets left _ read)
 
 pub returns-in_err-graph_of : goal.returns-in_err-graph_of
@@ -24,5 +25,7 @@ returns-in_err-graph_of c =
     let octets = c.args.octets.now in
     let nodes = c.in_ok-nodes.nodes in
     let left = c.read.new.cursor in
-    let read = subst (λ o. Reads (spelled_list spelled_node) (Ok nodes) o left) c.new-cursor.ensures c.in_ok-nodes.ensures in
-    rw (p.1, p.2) (only_if_weaker (wants_memory c.in_err-graph_of.field-0.0) (IsGraph nodes → ⊥) (BeginsWithNoGraph octets) (front_breaks octets nodes left read) c.in_err-graph_of.ensures.refused)
+    let read = subst (λ o. Reads (spelled_list spelled_node) (Ok nodes) o left) c.new-cursor.ensures
+    c.in_ok-nodes.ensures in
+    rw (p.1, p.2) (only_if_weaker (wants_memory c.in_err-graph_of.field-0.0) (IsGraph nodes → ⊥)
+    (BeginsWithNoGraph octets) (front_breaks octets nodes left read) c.in_err-graph_of.ensures.refused)

@@ -10,4 +10,5 @@ returns-in_err-most c =
 
 pub returns : goal.returns
 returns c =
-    uses_skim c.in_ok-most.most c.in_ok-most.most.0.1.0.count c.skim_run-uses.result c.both.result _ _ _ refl c.both.ensures c.in_ok-most.ensures c.skim_run-uses.ensures
+    uses_skim c.in_ok-most.most c.in_ok-most.most.0.1.0.count c.skim_run-uses.result c.both.result _ _ _ refl
+    c.both.ensures c.in_ok-most.ensures c.skim_run-uses.ensures

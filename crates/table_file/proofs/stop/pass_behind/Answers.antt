@@ -13,12 +13,15 @@ returns-then-not-pass c =
 
 pub returns-then-not-pass-2 : goal.returns-then-not-pass-2
 returns-then-not-pass-2 c =
-    then_passes spelled_declared (programs_and_uses c.args.names) declared_code _ _ _ _ _ c.if-not-pass.false c.pass.ensures
+    then_passes spelled_declared (programs_and_uses c.args.names) declared_code _ _ _ _ _ c.if-not-pass.false
+    c.pass.ensures
     (else_stops (spelled_pair spelled_program spelled_program) (spelled_run c.args.names spelled_which)
     (one_uses c.args.names) _ _ _ c.if-not-pass-2.true c.pass-2.ensures)
 
 pub returns : goal.returns
 returns c =
-    then_passes spelled_declared (programs_and_uses c.args.names) declared_code _ _ _ _ _ c.if-not-pass.false c.pass.ensures
-    (then_passes (spelled_pair spelled_program spelled_program) (spelled_run c.args.names spelled_which) programs_code _ _ _ _ _
+    then_passes spelled_declared (programs_and_uses c.args.names) declared_code _ _ _ _ _ c.if-not-pass.false
+    c.pass.ensures
+    (then_passes (spelled_pair spelled_program spelled_program) (spelled_run c.args.names spelled_which) programs_code _
+    _ _ _ _
     c.if-not-pass-2.false c.pass-2.ensures c.pass_run.ensures)

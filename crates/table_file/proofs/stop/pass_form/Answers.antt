@@ -13,7 +13,8 @@ returns-in-Some-eq1 c =
 pub returns-in-Some : goal.returns-in-Some
 returns-in-Some c =
     let second : c.in-Some.field-0 ≡ 2 =
-    second_of_two 1 2 c.in-Some.field-0 c.in-Some.ensures.passes.0 (λ e. let other = c.in-Some.field-0-test in omega (arith, other, e)) in
+    second_of_two 1 2 c.in-Some.field-0 c.in-Some.ensures.passes.0
+    (λ e. let other = c.in-Some.field-0-test in omega (arith, other, e)) in
     kind_passes is_new (λ n. Contains (1 ∷ 2 ∷ []) n) _ _ _ _ _ second c.in-Some.ensures c.pass_new.ensures
 
 pub returns-in-None : goal.returns-in-None

@@ -10,12 +10,15 @@ returns-then-is_none c =
 
 pub returns-then-is_none-2 : goal.returns-then-is_none-2
 returns-then-is_none-2 c =
-    then_passes (letter 73) more_letters (letter_code 73) _ _ _ _ _ c.if-is_none.ensures (letter_passes 73 _ _ _ c.one_of.ensures)
-    (else_stops (letter 68) last_letters one_last _ _ _ c.if-is_none-2.ensures (letter_passes 68 _ _ _ c.one_of-2.ensures))
+    then_passes (letter 73) more_letters (letter_code 73) _ _ _ _ _ c.if-is_none.ensures
+    (letter_passes 73 _ _ _ c.one_of.ensures)
+    (else_stops (letter 68) last_letters one_last _ _ _ c.if-is_none-2.ensures
+    (letter_passes 68 _ _ _ c.one_of-2.ensures))
 
 pub returns-then-is_none-3 : goal.returns-then-is_none-3
 returns-then-is_none-3 c =
-    then_passes (letter 73) more_letters (letter_code 73) _ _ _ _ _ c.if-is_none.ensures (letter_passes 73 _ _ _ c.one_of.ensures)
+    then_passes (letter 73) more_letters (letter_code 73) _ _ _ _ _ c.if-is_none.ensures
+    (letter_passes 73 _ _ _ c.one_of.ensures)
     (then_passes (letter 68) last_letters (letter_code 68) _ _ _ _ _ c.if-is_none-2.ensures
     (letter_passes 68 _ _ _ c.one_of-2.ensures)
     (else_stops (letter 76) (letter 84) (one_letter 84) _ _ _ c.if-is_none-3.ensures
@@ -23,7 +26,8 @@ returns-then-is_none-3 c =
 
 pub returns : goal.returns
 returns c =
-    then_passes (letter 73) more_letters (letter_code 73) _ _ _ _ _ c.if-is_none.ensures (letter_passes 73 _ _ _ c.one_of.ensures)
+    then_passes (letter 73) more_letters (letter_code 73) _ _ _ _ _ c.if-is_none.ensures
+    (letter_passes 73 _ _ _ c.one_of.ensures)
     (then_passes (letter 68) last_letters (letter_code 68) _ _ _ _ _ c.if-is_none-2.ensures
     (letter_passes 68 _ _ _ c.one_of-2.ensures)
     (then_passes (letter 76) (letter 84) (letter_code 76) _ _ _ _ _ c.if-is_none-3.ensures

@@ -13,7 +13,8 @@ octets-init c = none_passed spelled_ascii _
 pub returns-then-is_none : goal.returns-then-is_none
 returns-then-is_none c =
     run_stops c.args.count spelled_ascii ascii_code one_ascii c.octets.place _ _ _ _ c.octets-test.true
-    c.if-is_none.ensures c.octets.invariant (one_passes spelled_ascii (λ n. n < 128) ascii_code one_ascii ascii_each ascii_only _ _ _ c.below.ensures)
+    c.if-is_none.ensures c.octets.invariant
+    (one_passes spelled_ascii (λ n. n < 128) ascii_code one_ascii ascii_each ascii_only _ _ _ c.below.ensures)
 
 pub octets-preserved : goal.octets-preserved
 octets-preserved c =

@@ -13,4 +13,5 @@ returns-in_err-octets c =
 pub returns : goal.returns
 returns c =
     ascii_reads c.args.count c.in_ok-octets.octets.now c.name_of.result _ _ c.in_ok-octets.ensures.taken
-    (is_name_of c.in_ok-octets.octets.now c.name_of.result c.name_of.ensures.kept c.name_of.ensures.ascii c.name_of.ensures.refused)
+    (is_name_of c.in_ok-octets.octets.now c.name_of.result c.name_of.ensures.kept c.name_of.ensures.ascii
+    c.name_of.ensures.refused)

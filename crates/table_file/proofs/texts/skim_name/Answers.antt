@@ -12,7 +12,8 @@ use Rattle.table_file.proofs.texts.skim_name.Goals as goal
 pub returns-in_err-octets : goal.returns-in_err-octets
 returns-in_err-octets c =
     let p = err_from_is_err_and c.from_residual.result c.from_residual.ensures.1 in
-    rw (p.1, p.2) (skim_fails (spelled_run c.args.count spelled_ascii) (IsAtMost (no_weight {A = List ℕ})) _ _ _ (too_many spelled_ascii ascii_code c.args.count _ _ _ c.in_err-octets.ensures.short))
+    rw (p.1, p.2) (skim_fails (spelled_run c.args.count spelled_ascii) (IsAtMost (no_weight {A = List ℕ})) _ _ _
+    (too_many spelled_ascii ascii_code c.args.count _ _ _ c.in_err-octets.ensures.short))
 
 pub returns-then-not-is_ascii : goal.returns-then-not-is_ascii
 returns-then-not-is_ascii c =
@@ -23,5 +24,7 @@ returns-then-not-is_ascii c =
 pub returns : goal.returns
 returns c =
     let good : all_ascii c.in_ok-octets.octets.now ≡ true = cc in
-    skims_by (spelled_run c.args.count spelled_ascii) (IsAtMost (no_weight {A = List ℕ})) (Ok c.in_ok-octets.octets.now) (Ok 0) _ _
-    (ascii_reads c.args.count c.in_ok-octets.octets.now (Ok c.in_ok-octets.octets.now) _ _ c.in_ok-octets.ensures.taken (refl, good)) (omega arith)
+    skims_by (spelled_run c.args.count spelled_ascii) (IsAtMost (no_weight {A = List ℕ})) (Ok c.in_ok-octets.octets.now)
+    (Ok 0) _ _
+    (ascii_reads c.args.count c.in_ok-octets.octets.now (Ok c.in_ok-octets.octets.now) _ _ c.in_ok-octets.ensures.taken
+    (refl, good)) (omega arith)

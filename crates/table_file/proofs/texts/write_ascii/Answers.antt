@@ -11,4 +11,5 @@ returns-then-not-is_ascii c =
 pub returns : goal.returns
 returns c =
     let good : all_ascii c.args.octets.now ≡ true = cc in
-    ap (λ o. Some c.args.out.now.items ++? o) (ascii_spelled true c.args.octets.now good) ∙ ap Some (sym c.in_ok-extend_from_slice.ensures.items)
+    ap (λ o. Some c.args.out.now.items ++? o) (ascii_spelled true c.args.octets.now good)
+    ∙ ap Some (sym c.in_ok-extend_from_slice.ensures.items)

@@ -12,7 +12,8 @@ returns-in-Stuck c =
 
 pub loop-preserved : goal.loop-preserved
 loop-preserved c =
-    let pushed : c.push.new.self.items ≡ c.loop.refused.items ++ c.in-Part.part ∷ [] = c.in_ok-push-in-Part.ensures.items in
+    let pushed : c.push.new.self.items ≡ c.loop.refused.items ++ c.in-Part.part ∷ [] =
+    c.in_ok-push-in-Part.ensures.items in
     let room : length c.loop.first.items < c.args.most = grind arith in
     record {
       stands =
@@ -21,5 +22,6 @@ loop-preserved c =
           (found_part c.args.tokens.now c.as_slice.result.now c.loop.refused.items c.in_ok-next_refused.field-0
           c.in-Part.part c.in-Part.fault c.in-Part.is c.as_slice.ensures.value c.in_ok-next_refused.ensures)
           pushed c.in_ok-tell-in-Part.ensures;
-      counted = rw pushed (omega (arith, length-append c.loop.refused.items (c.in-Part.part ∷ []), c.loop.invariant.counted));
+      counted = rw pushed (omega
+          (arith, length-append c.loop.refused.items (c.in-Part.part ∷ []), c.loop.invariant.counted));
     }

@@ -11,12 +11,15 @@ use Rattle.type_faults.specs.AllFaults.{AreRefused}
 use Rattle.type_faults.proofs.laws.nothing_is_told.Goals as goal
 
 abbrev FirstTold : Type 0
-FirstTold = (tokens : List Token) (definitions : List Definition) (names : FileNames) (part : ℕ × BuildFault) (parts : List (ℕ × BuildFault))
+FirstTold = (tokens : List Token) (definitions : List Definition) (names : FileNames) (part : ℕ × BuildFault)
+    (parts : List (ℕ × BuildFault))
     → Spell (definitions_spelled definitions) tokens → AreNames definitions names → AreRefused tokens [] (part ∷ parts)
     → defined_by names.entries definitions ≡ Err part.1
 
-none_told : FirstTold → (tokens : List Token) (definitions : List Definition) (names : FileNames) (parts : List (ℕ × BuildFault)) (lowered : Defined)
-    → Spell (definitions_spelled definitions) tokens → AreNames definitions names → defined_by names.entries definitions ≡ Ok lowered
+none_told : FirstTold → (tokens : List Token) (definitions : List Definition) (names : FileNames)
+    (parts : List (ℕ × BuildFault)) (lowered : Defined)
+    → Spell (definitions_spelled definitions) tokens → AreNames definitions names
+    → defined_by names.entries definitions ≡ Ok lowered
     → AreRefused tokens [] parts → parts ≡ []
 none_told first tokens definitions names [] lowered spelled named told are = refl
 none_told first tokens definitions names (part ∷ parts) lowered spelled named told are =

@@ -31,7 +31,8 @@ loop-token-preserved c =
           let outside : is_in_part s.mode (parts_of t) ≡ false = sym c.is_within.ensures ∙ w.if-is_within.false in
           rw outside (w.is_left_out-is ∙ w.if-is_within.false)
     ] in
-    let as_seen : parts_of x ≡ seen_as (is_in_part s.mode (parts_of t) && is_left_out kept refused s.parts) (parts_of t) =
+    let as_seen : parts_of x ≡ seen_as (is_in_part s.mode (parts_of t) && is_left_out kept refused s.parts)
+    (parts_of t) =
     subst (λ b. parts_of x ≡ seen_as b (parts_of t)) out c.seen_or_pragma.ensures in
     let pushed : c.push.new.self.items ≡ ls ++ x ∷ [] = c.in_ok-push.ensures.items in
     record {

@@ -23,19 +23,22 @@ find_height-height_above-height-requires t c =
 pub find_height-returns-clause-value : goal.find_height-returns-clause-value
 find_height-returns-clause-value t c = λ known.
     let is : c.in-Some-get.node.now ≡ node_at c.args.graph.now c.args.number = search rules in
-    c.height_above-height.ensures.value known ∙ height_at c.args.graph.now c.nodes.ensures.rules c.args.number c.in-Some-get.node.now is
+    c.height_above-height.ensures.value known
+    ∙ height_at c.args.graph.now c.nodes.ensures.rules c.args.number c.in-Some-get.node.now is
 
 pub find_height-returns-clause-keeps : goal.find_height-returns-clause-keeps
 find_height-returns-clause-keeps t c = λ known.
     let is : c.in-Some-get.node.now ≡ node_at c.args.graph.now c.args.number = search rules in
     c.keep.ensures c.args.graph.now (c.height_above-height.ensures.keeps known)
-    (c.height_above-height.ensures.value known ∙ height_at c.args.graph.now c.nodes.ensures.rules c.args.number c.in-Some-get.node.now is)
+    (c.height_above-height.ensures.value known
+    ∙ height_at c.args.graph.now c.nodes.ensures.rules c.args.number c.in-Some-get.node.now is)
 
 pub height_above-find_height-requires : goal.height_above-find_height-requires
 height_above-find_height-requires t c =
     let d = c.decreases in
     let there : slice_get (held_by c.args.node.now) c.loop-place.place ≡ Some c.in-Some.part = search rules in
-    let falls = part_falls (height_of c.args.graph.now) (held_by c.args.node.now) c.loop-place.place c.in-Some.part there in
+    let falls = part_falls (height_of c.args.graph.now) (held_by c.args.node.now) c.loop-place.place c.in-Some.part
+    there in
     (omega (arith, d, falls), tt)
 
 pub height_above-loop-place-preserved : goal.height_above-loop-place-preserved
@@ -46,9 +49,13 @@ height_above-loop-place-preserved t c = λ known.
     elim c.match-held_at.branch [
       | height_above-in-Some w ↦
           let there : slice_get held c.loop-place.place ≡ Some w.in-Some.part = sym c.held_at.ensures ∙ w.in-Some.is in
-          let step = w.height-is ∙ w.max-height.ensures ∙ ap (λ (n : ℕ). max n c.loop-place.height) w.saturating_add.ensures in (
+          let step = w.height-is ∙ w.max-height.ensures
+          ∙ ap (λ (n : ℕ). max n c.loop-place.height) w.saturating_add.ensures in (
             subst (AreKnown graph) (sym w.known-is) (w.find_height.ensures.keeps so_far.0),
-            height_more (height_of graph) held c.loop-place.place w.in-Some.part c.loop-place.height w.find_height.result c.match-held_at.height there (w.find_height.ensures.value so_far.0) (height_bound 64 graph w.in-Some.part) step so_far.1,
+            height_more (height_of graph) held c.loop-place.place w.in-Some.part c.loop-place.height
+                w.find_height.result c.match-held_at.height there (w.find_height.ensures.value so_far.0)
+                (height_bound 64 graph w.in-Some.part) step so_far.1,
           )
-      | height_above-in_default w ↦ absurd (none_within held c.loop-place.place (search rules) (sym c.held_at.ensures ∙ w.in_default.is))
+      | height_above-in_default w ↦
+          absurd (none_within held c.loop-place.place (search rules) (sym c.held_at.ensures ∙ w.in_default.is))
     ]

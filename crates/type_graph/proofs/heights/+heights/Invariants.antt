@@ -14,4 +14,5 @@ decreases-height_above l = 2 * above (height_of l.graph.now) (held_by l.node.now
 abbrev pub invariant-height_above-loop-place : goal.invariant-height_above-loop-place
 invariant-height_above-loop-place l =
     AreKnown l.graph l.fn.known → AreKnown l.graph l.known
-    × (max l.height (above (height_of l.graph) (drop l.place (held_by l.node))) ≡ above (height_of l.graph) (held_by l.node))
+    × (max l.height (above (height_of l.graph) (drop l.place (held_by l.node)))
+    ≡ above (height_of l.graph) (held_by l.node))

@@ -8,5 +8,7 @@ loop-number-preserved c = record {
   long = search rules;
   told =
       rw c.in_ok-push.ensures.items
-      (heights_more c.args.graph.now c.loop-number.heights.items c.loop-number.number c.find_height.result c.loop-number.invariant.long c.loop-number.invariant.told (c.find_height.ensures.value c.loop-number.invariant.known));
+      (heights_more c.args.graph.now c.loop-number.heights.items c.loop-number.number c.find_height.result
+      c.loop-number.invariant.long c.loop-number.invariant.told
+      (c.find_height.ensures.value c.loop-number.invariant.known));
 }

@@ -8,12 +8,15 @@ pub loop-place-preserved : goal.loop-place-preserved
 loop-place-preserved c =
     let held = held_by c.args.node.now in
     let lt : c.loop-place.place < length held = omega arith in
-    All-more (λ number. slice_index_or c.args.table.now number false ≡ true) held c.loop-place.place 0 lt c.loop-place.invariant
-    (part_known (λ number. slice_index_or c.args.table.now number false ≡ true) held c.loop-place.place c.held_at.result c.held_at.ensures lt (c.is_none_or_in.ensures.0 c.if-not-is_none_or_in.false))
+    All-more (λ number. slice_index_or c.args.table.now number false ≡ true) held c.loop-place.place 0 lt
+    c.loop-place.invariant
+    (part_known (λ number. slice_index_or c.args.table.now number false ≡ true) held c.loop-place.place c.held_at.result
+    c.held_at.ensures lt (c.is_none_or_in.ensures.0 c.if-not-is_none_or_in.false))
 
 pub returns : goal.returns
 returns c = (
-  λ h. All-same (λ number. slice_index_or c.args.table.now number false ≡ true) _ _ (sym (take_all c.loop-place.place (held_by c.args.node.now) (omega arith))) c.loop-place.invariant,
+  λ h. All-same (λ number. slice_index_or c.args.table.now number false ≡ true) _ _
+      (sym (take_all c.loop-place.place (held_by c.args.node.now) (omega arith))) c.loop-place.invariant,
   λ h. refl,
 )
 
@@ -23,7 +26,9 @@ returns-then-not-is_none_or_in c = (
   λ h.
       let held = held_by c.args.node.now in
       let lt : c.loop-place.place < length held = omega arith in
-      let is_true = c.is_none_or_in.ensures.1 (part_of_all (λ number. slice_index_or c.args.table.now number false ≡ true) held c.loop-place.place c.held_at.result c.held_at.ensures lt h) in
+      let is_true = c.is_none_or_in.ensures.1
+      (part_of_all (λ number. slice_index_or c.args.table.now number false ≡ true) held c.loop-place.place
+      c.held_at.result c.held_at.ensures lt h) in
       let bad : true ≡ false = sym is_true ∙ c.if-not-is_none_or_in.true in
       absurd cc,
 )

@@ -7,5 +7,6 @@ use Rattle.type_graph.proofs.rules.level_above.Given as goal
 abbrev pub invariant-loop-node : goal.invariant-loop-node
 invariant-loop-node l = record {
   long : length l.next.items ≡ l.node-index;
-  above : (number : ℕ) → number < l.node-index → IsIn l.next.items number ↔ All (IsIn l.table) (held_by (node_at l.nodes number));
+  above : (number : ℕ) → number < l.node-index → IsIn l.next.items number
+      ↔ All (IsIn l.table) (held_by (node_at l.nodes number));
 }

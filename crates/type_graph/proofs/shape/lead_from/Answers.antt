@@ -9,7 +9,8 @@ use Rattle.type_graph.proofs.shape.lead_from.Goals as goal
 
 -- a step down takes one of the levels that are left
 step_down : (graph : List Node) (number counter : ℕ) → counter < 64
-    → lead_within (64 - counter) graph number ≡ lead_by (lead_within (64 - (counter + 1)) graph) graph (node_at graph number)
+    → lead_within (64 - counter) graph number ≡ lead_by (lead_within (64 - (counter + 1)) graph) graph
+    (node_at graph number)
 unfolding lead_within
 step_down graph number counter lt =
     let e : 64 - counter ≡ suc (64 - (counter + 1)) = omega arith in
@@ -25,12 +26,14 @@ no_level graph number counter le =
 pub returns-in-By : goal.returns-in-By
 returns-in-By c =
     let lead : ℕ → Width = lead_within (64 - (c.loop.counter + 1)) c.args.nodes.now in
-    ap (lead_as lead) (sym c.in-By.is) ∙ c.lead_step_at.ensures lead ∙ sym (step_down c.args.nodes.now c.loop.at c.loop.counter (omega arith)) ∙ c.loop.invariant
+    ap (lead_as lead) (sym c.in-By.is) ∙ c.lead_step_at.ensures lead
+    ∙ sym (step_down c.args.nodes.now c.loop.at c.loop.counter (omega arith)) ∙ c.loop.invariant
 
 pub loop-preserved : goal.loop-preserved
 loop-preserved c =
     let lead : ℕ → Width = lead_within (64 - (c.loop.counter + 1)) c.args.nodes.now in
-    ap (lead_as lead) (sym c.in-As.is) ∙ c.lead_step_at.ensures lead ∙ sym (step_down c.args.nodes.now c.loop.at c.loop.counter (omega arith)) ∙ c.loop.invariant
+    ap (lead_as lead) (sym c.in-As.is) ∙ c.lead_step_at.ensures lead
+    ∙ sym (step_down c.args.nodes.now c.loop.at c.loop.counter (omega arith)) ∙ c.loop.invariant
 
 pub returns : goal.returns
 returns c = sym (no_level c.args.nodes.now c.loop.at c.loop.counter (omega arith)) ∙ c.loop.invariant

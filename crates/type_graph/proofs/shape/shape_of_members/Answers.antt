@@ -14,4 +14,6 @@ loop-number-preserved c = λ leaves size known.
 
 pub returns : goal.returns
 returns c = λ leaves size known.
-    subst (λ (members : List ℕ). IsShape (flat_map leaves members) (sum_by size members) c.loop-number.shape) (take_all c.loop-number.number-index c.args.members.now (omega arith)) (c.loop-number.invariant leaves size known)
+    subst (λ (members : List ℕ). IsShape (flat_map leaves members) (sum_by size members) c.loop-number.shape)
+    (take_all c.loop-number.number-index c.args.members.now (omega arith))
+    (c.loop-number.invariant leaves size known)

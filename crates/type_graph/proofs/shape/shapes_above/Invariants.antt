@@ -9,5 +9,6 @@ abbrev pub invariant-loop-node : goal.invariant-loop-node
 invariant-loop-node l = record {
   long : length l.next.items ≡ l.node-index;
   at : (leaves : ℕ → List Node) (size : ℕ → ℕ) → AreShapes l.table leaves size → (number : ℕ) → number < l.node-index
-      → IsShape (leaves_by leaves (node_at l.nodes number)) (size_by size l.nodes (node_at l.nodes number)) (slice_index_or l.next.items number octet_shape);
+      → IsShape (leaves_by leaves (node_at l.nodes number)) (size_by size l.nodes (node_at l.nodes number))
+      (slice_index_or l.next.items number octet_shape);
 }

@@ -12,8 +12,10 @@ returns-clause-order c =
     let keys = c.in_ok-keys.keys.items in
     let lent = c.as_slice.ensures.value in
     let differ = subst (λ (keys : List Key). Differ keys (length keys)) lent c.in_ok-order.ensures.differ in
-    let places = c.in_ok-order.ensures.places ∙ subst (λ (list : List Key). map place_of c.as_slice.result.now ≡ map place_of list) lent refl in
-    subst (IsOrder c.args.names.now) (sym places) (is_order c.args.names.now keys c.in_ok-keys.ensures.keys c.in_ok-keys.ensures.sorted differ)
+    let places = c.in_ok-order.ensures.places
+    ∙ subst (λ (list : List Key). map place_of c.as_slice.result.now ≡ map place_of list) lent refl in
+    subst (IsOrder c.args.names.now) (sym places)
+    (is_order c.args.names.now keys c.in_ok-keys.ensures.keys c.in_ok-keys.ensures.sorted differ)
 
 pub returns-clause-distinct : goal.returns-clause-distinct
 returns-clause-distinct c = order_distinct c.args.names.now c.in_ok-order.order.items (returns-clause-order c)
@@ -22,6 +24,8 @@ pub returns-in_err-order-clause-refused : goal.returns-in_err-order-clause-refus
 returns-in_err-order-clause-refused c =
     let p = err_from_is_err_and c.from_residual-in_err-order.result c.from_residual-in_err-order.ensures.1 in
     let lent = c.as_slice.ensures.value in
-    rw (p.1, p.2) (only_if_weaker (wants_memory c.in_err-order.field-0.0) (Differ c.as_slice.result.now (length c.as_slice.result.now) → ⊥) (AreDistinct c.args.names.now → ⊥)
-    (λ same distinct. same (subst (λ (keys : List Key). Differ keys (length keys)) (sym lent) (distinct_differ c.args.names.now c.in_ok-keys.keys.items c.in_ok-keys.ensures.keys distinct)))
+    rw (p.1, p.2) (only_if_weaker (wants_memory c.in_err-order.field-0.0)
+    (Differ c.as_slice.result.now (length c.as_slice.result.now) → ⊥) (AreDistinct c.args.names.now → ⊥)
+    (λ same distinct. same (subst (λ (keys : List Key). Differ keys (length keys)) (sym lent)
+    (distinct_differ c.args.names.now c.in_ok-keys.keys.items c.in_ok-keys.ensures.keys distinct)))
     c.in_err-order.ensures.refused)

@@ -9,7 +9,8 @@ loop-low-preserved c =
       order = omega arith;
       round = c.loop-low.invariant.round;
       before = λ less lt round.
-          let yes : IsTrue c.in_ok-goes_round.field-0 = c.in_ok-goes_round.ensures.1 (round_later c.args.types.now less middle (omega arith) round) in
+          let yes : IsTrue c.in_ok-goes_round.field-0 =
+          c.in_ok-goes_round.ensures.1 (round_later c.args.types.now less middle (omega arith) round) in
           let bad : true ≡ false = sym yes ∙ c.if-branch.false in
           absurd cc;
     }

@@ -9,7 +9,8 @@ returns-in_default-clause-none c = λ number lt.
     let types = c.args.types.now in
     let most = c.greatest-greatest.result in
     let level = subst (IsLevel types most 64) (sym c.deref.ensures.value) c.in_ok-deep.ensures.level in
-    no_path_shallow types most c.greatest-greatest.ensures 64 number (λ path. c.in_default.ensures.none number ((level.same number).1 path))
+    no_path_shallow types most c.greatest-greatest.ensures 64 number
+    (λ path. c.in_default.ensures.none number ((level.same number).1 path))
 
 pub returns-then-not-branch-clause-some : goal.returns-then-not-branch-clause-some
 returns-then-not-branch-clause-some c =
@@ -27,6 +28,7 @@ returns-then-not-branch-clause-some c =
       node = node;
       within = omega arith;
       deep = λ shallow. shallow_no_path types most 64 node shallow ((level.same node).0 c.in-Some.ensures.some);
-      first = λ less lt. no_path_shallow types most c.greatest-greatest.ensures 64 less (λ path. c.in-Some.ensures.first less lt ((level.same less).1 path));
+      first = λ less lt. no_path_shallow types most c.greatest-greatest.ensures 64 less
+          (λ path. c.in-Some.ensures.first less lt ((level.same less).1 path));
       stands = c.own_at-at.ensures;
     }

@@ -6,5 +6,6 @@ use Rattle.type_paths.proofs.levels.holds_one.Given as goal
 
 abbrev pub invariant-loop-place : goal.invariant-loop-place
 invariant-loop-place l =
-    (place part : ℕ) → place < l.place → slice_get (held_by l.node) place ≡ Some part → token_at l.types l.number place ≤ l.token
+    (place part : ℕ) → place < l.place → slice_get (held_by l.node) place ≡ Some part
+    → token_at l.types l.number place ≤ l.token
     → IsIn l.table l.past part → ⊥

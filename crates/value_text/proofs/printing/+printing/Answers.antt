@@ -19,7 +19,8 @@ write_list-returns t c = on_ok_weaker c.end_array.result (λ written.
     let rest = joined (elements names graph elem (trees_of (drop i values))) in
     record {
       same = c.end_array.ensures.room.0 ∙ c.loop-value.invariant.0;
-      added = closed begin_array end_array c.args.out.now.tokens c.loop-value.out.tokens rest parts c.end_array.new.self.tokens c.loop-value.invariant.1
+      added = closed begin_array end_array c.args.out.now.tokens c.loop-value.out.tokens rest parts
+          c.end_array.new.self.tokens c.loop-value.invariant.1
           (elements_end names graph elem values i c.loop-value-test.false) written;
     }) c.end_array.ensures.ok
 
@@ -32,7 +33,8 @@ write_row-returns t c = on_ok_weaker c.end_array.result (λ written.
     let i = c.loop-place.place in
     record {
       same = c.end_array.ensures.room.0 ∙ c.loop-place.invariant.0;
-      added = closed begin_array end_array c.args.out.now.tokens c.loop-place.out.tokens (row names graph members values i) (row names graph members values 0) c.end_array.new.self.tokens
+      added = closed begin_array end_array c.args.out.now.tokens c.loop-place.out.tokens
+          (row names graph members values i) (row names graph members values 0) c.end_array.new.self.tokens
           c.loop-place.invariant.1 (row_end names graph members values i c.loop-place-test.false) written;
     }) c.end_array.ensures.ok
 
@@ -46,7 +48,9 @@ write_object-returns t c = on_ok_weaker c.end_object.result (λ written.
     let i = c.loop-place.place in
     record {
       same = c.end_object.ensures.room.0 ∙ c.loop-place.invariant.0;
-      added = closed begin_object end_object c.args.out.now.tokens c.loop-place.out.tokens (pairs names graph labels members values i) (pairs names graph labels members values 0) c.end_object.new.self.tokens
+      added = closed begin_object end_object c.args.out.now.tokens c.loop-place.out.tokens
+          (pairs names graph labels members values i) (pairs names graph labels members values 0)
+          c.end_object.new.self.tokens
           c.loop-place.invariant.1 (pairs_end names graph labels members values i c.loop-place-test.false) written;
     }) c.end_object.ensures.ok
 
@@ -65,8 +69,10 @@ write_object-loop-place-preserved t c =
     let tokens = c.loop-place.out.tokens in
     let step = pairs_next names graph labels members values i value c.loop-place-test.true c.index-values-place.is in (
       adds.same ∙ c.loop-place.invariant.0,
-      next tokens c.write_member.new.out.tokens (paired (member_at names graph (slice_get labels i) (slice_get members i) (tree_of value)))
-          (pairs names graph labels members values (i + 1)) ((c.args.out.now.tokens ++ begin_object ∷ []) ++ pairs names graph labels members values 0)
+      next tokens c.write_member.new.out.tokens
+          (paired (member_at names graph (slice_get labels i) (slice_get members i) (tree_of value)))
+          (pairs names graph labels members values (i + 1))
+          ((c.args.out.now.tokens ++ begin_object ∷ []) ++ pairs names graph labels members values 0)
           (ap (λ l. tokens ++ l) (sym step) ∙ c.loop-place.invariant.1)
           (adds.added ∙ ap₂ (λ l m. tokens ++ paired (member_at names graph l m (tree_of value))) label member),
     )
@@ -84,7 +90,8 @@ write_row-loop-place-preserved t c =
     let step = row_next names graph members values i value c.loop-place-test.true c.index-values-place.is in (
       adds.same ∙ c.loop-place.invariant.0,
       next tokens c.write_part.new.out.tokens (joined (part_at names graph (slice_get members i) (tree_of value)))
-          (row names graph members values (i + 1)) ((c.args.out.now.tokens ++ begin_array ∷ []) ++ row names graph members values 0)
+          (row names graph members values (i + 1))
+          ((c.args.out.now.tokens ++ begin_array ∷ []) ++ row names graph members values 0)
           (ap (λ l. tokens ++ l) (sym step) ∙ c.loop-place.invariant.1)
           (adds.added ∙ ap (λ m. tokens ++ joined (part_at names graph m (tree_of value))) c.number_at-member.ensures),
     )
@@ -102,6 +109,7 @@ write_list-loop-value-preserved t c =
     let step = elements_next names graph elem values i value c.loop-value-test.true c.value-item.is in (
       adds.same ∙ c.loop-value.invariant.0,
       next tokens c.write_value.new.out.tokens (text_at names graph elem (tree_of value))
-          (joined (elements names graph elem (trees_of (drop (i + 1) values)))) ((c.args.out.now.tokens ++ begin_array ∷ []) ++ joined (elements names graph elem (trees_of values)))
+          (joined (elements names graph elem (trees_of (drop (i + 1) values))))
+          ((c.args.out.now.tokens ++ begin_array ∷ []) ++ joined (elements names graph elem (trees_of values)))
           (ap (λ l. tokens ++ l) (sym step) ∙ c.loop-value.invariant.1) adds.added,
     )

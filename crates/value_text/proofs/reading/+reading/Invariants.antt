@@ -33,14 +33,16 @@ abbrev pub decreases-read_object : goal.decreases-read_object
 decreases-read_object l = 4 * (66 * l.depth + above (height_of l.types.now.graph.now) l.members.now)
 
 abbrev pub decreases-read_choice : goal.decreases-read_choice
-decreases-read_choice l = 4 * (66 * l.depth + above (height_of l.types.now.graph.now) (held_by (Union l.switch l.arms.now l.default))) + 2
+decreases-read_choice l =
+    4 * (66 * l.depth + above (height_of l.types.now.graph.now) (held_by (Union l.switch l.arms.now l.default))) + 2
 
 abbrev pub decreases-read_chosen : goal.decreases-read_chosen
 decreases-read_chosen l = 4 * (66 * l.depth + above (height_of l.types.now.graph.now) (option_to_list l.chosen))
 
 abbrev pub invariant-read_list-loop-token : goal.invariant-read_list-loop-token
 invariant-read_list-loop-token l =
-    ReadsParts l.types.names.now l.types.graph.now (replicate (length l.values.items) l.elem) l.depth l.fn.cursor (trees_of l.values.items) l.cursor
+    ReadsParts l.types.names.now l.types.graph.now (replicate (length l.values.items) l.elem) l.depth l.fn.cursor
+    (trees_of l.values.items) l.cursor
     × (length l.values.items ≤ l.most)
 
 abbrev pub decreases-read_list-loop-token : goal.decreases-read_list-loop-token
@@ -48,12 +50,14 @@ decreases-read_list-loop-token l = length l.cursor
 
 abbrev pub invariant-read_row-loop-member : goal.invariant-read_row-loop-member
 invariant-read_row-loop-member l =
-    ReadsParts l.types.names.now l.types.graph.now (take l.member-index l.members) l.depth l.fn.cursor (trees_of l.values.items) l.cursor
+    ReadsParts l.types.names.now l.types.graph.now (take l.member-index l.members) l.depth l.fn.cursor
+    (trees_of l.values.items) l.cursor
 
 abbrev pub invariant-read_object-each : goal.invariant-read_object-each
 invariant-read_object-each l =
     (length l.slots.items ≡ length l.members)
-    × ReadsSlots l.types.names.now l.types.graph.now (names_at l.types.names.now l.number) l.members l.depth l.fn.cursor l.slots.items l.cursor
+    × ReadsSlots l.types.names.now l.types.graph.now (names_at l.types.names.now l.number) l.members l.depth l.fn.cursor
+    l.slots.items l.cursor
 
 abbrev pub decreases-read_object-each : goal.decreases-read_object-each
 decreases-read_object-each l = length l.cursor

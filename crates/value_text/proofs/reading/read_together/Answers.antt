@@ -10,13 +10,15 @@ pub returns-in-None-clause-refused : goal.returns-in-None-clause-refused
 returns-in-None-clause-refused c =
     let graph = c.args.types.now.graph.now in
     let node : Octet ≡ node_at graph c.args.elem = search rules in
-    IfErr-weaker c.read_octets.result _ _ (λ stop. refuses_weaker stop (no_octets graph c.args.elem c.args.text.now node)) c.read_octets.ensures.refused
+    IfErr-weaker c.read_octets.result _ _
+    (λ stop. refuses_weaker stop (no_octets graph c.args.elem c.args.text.now node)) c.read_octets.ensures.refused
 
 pub returns-in-Some-Char-clause-refused : goal.returns-in-Some-Char-clause-refused
 returns-in-Some-Char-clause-refused c =
     let graph = c.args.types.now.graph.now in
     let node : Char ≡ node_at graph c.args.elem = search rules in
-    IfErr-weaker c.read_chars.result _ _ (λ stop. refuses_weaker stop (no_chars graph c.args.elem c.args.text.now node)) c.read_chars.ensures.refused
+    IfErr-weaker c.read_chars.result _ _ (λ stop. refuses_weaker stop (no_chars graph c.args.elem c.args.text.now node))
+    c.read_chars.ensures.refused
 
 pub returns-in_default-clause-refused : goal.returns-in_default-clause-refused
 returns-in_default-clause-refused c =

@@ -9,11 +9,14 @@ use Rattle.value_text.proofs.words.number_of.Goals as goal
 
 pub returns-in-Enum-clause-some : goal.returns-in-Enum-clause-some
 returns-in-Enum-clause-some c =
-    subst (λ node. IfSome c.enumerator_said.result (λ n. SaysNumber c.args.labels.now node n (token_of c.args.token))) (sym c.in-Enum.is)
+    subst (λ node. IfSome c.enumerator_said.result (λ n. SaysNumber c.args.labels.now node n (token_of c.args.token)))
+    (sym c.in-Enum.is)
     (c.enumerator_said.ensures.some c.in-Enum.n)
 
 pub returns-in-Enum-clause-complete : goal.returns-in-Enum-clause-complete
 returns-in-Enum-clause-complete c =
-    subst (λ node. IsLow node → IsNamed node c.args.labels.now → (n : ℤ) → IsNumber node n → SaysNumber c.args.labels.now node n (token_of c.args.token) → c.enumerator_said.result ≡ Some n)
+    subst (λ node. IsLow node → IsNamed node c.args.labels.now → (n : ℤ) → IsNumber node n
+    → SaysNumber c.args.labels.now node n (token_of c.args.token) → c.enumerator_said.result ≡ Some n)
     (sym c.in-Enum.is)
-    (λ low named n is_number says. c.enumerator_said.ensures.complete named c.in-Enum.n n (is_short (Enum c.in-Enum.n) n low is_number) says)
+    (λ low named n is_number says. c.enumerator_said.ensures.complete named c.in-Enum.n n
+    (is_short (Enum c.in-Enum.n) n low is_number) says)

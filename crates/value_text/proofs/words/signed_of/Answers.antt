@@ -25,7 +25,8 @@ returns-then-ne-clause-complete c = λ n low e.
     let got : c.ok.result ≡ Some c.in_ok-n.n = search rules in
     let same = same_Some _ _ (sym got ∙ c.ok.ensures.value ∙ ap result_ok parsed) in
     let inside = subst (SFits w64) (sym same) fits in
-    let text : c.format.result.now ≡ c.args.digits.now = c.format.ensures.text ∙ ap signed_decimal (to_z-of_z w64 c.in_ok-n.n inside ∙ same) ∙ sym e in
+    let text : c.format.result.now ≡ c.args.digits.now = c.format.ensures.text
+    ∙ ap signed_decimal (to_z-of_z w64 c.in_ok-n.n inside ∙ same) ∙ sym e in
     absurd (search rules)
 
 pub returns-clause-complete : goal.returns-clause-complete

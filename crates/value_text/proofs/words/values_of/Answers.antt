@@ -19,6 +19,7 @@ loop-octet-preserved c =
     let pushed : c.push.new.self.items ≡ values ++ value ∷ [] = search rules in
     let next : f value ∷ rest ≡ drop i octets = search (rules, drop-cons, add-one) in (
       ap (λ l. map f l ++ rest) pushed ∙ ap (λ l. l ++ rest) (map-append f values (value ∷ []))
-          ∙ append_assoc (map f values) (f value ∷ []) rest ∙ ap (λ l. map f values ++ l) next ∙ c.loop-octet.invariant.0,
+          ∙ append_assoc (map f values) (f value ∷ []) rest ∙ ap (λ l. map f values ++ l) next
+          ∙ c.loop-octet.invariant.0,
       subst (All P) (sym pushed) (All-push P values value c.loop-octet.invariant.1 c.value_of.ensures.is_octet),
     )

@@ -9,6 +9,7 @@ pub loop-number-preserved : goal.loop-number-preserved
 loop-number-preserved c =
     let model = c.args.model.now in
     let number = get_or c.args.numbers.now c.loop-number.number-index 0 in
-    let same = same_deed model number (place_in c.in_ok-places.places.entries) (attribute_named model c.args.getters.now) c.in_ok-places.ensures in
+    let same = same_deed model number (place_in c.in_ok-places.places.entries)
+    (attribute_named model c.args.getters.now) c.in_ok-places.ensures in
     let action = c.number_deed.ensures ∙ same in
     grind (arith, common_steps)

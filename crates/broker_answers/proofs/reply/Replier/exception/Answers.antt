@@ -9,5 +9,6 @@ use Rattle.broker_answers.proofs.reply.Replier.exception.Goals as goal
 pub send_own-requires-clause-sendable : goal.send_own-requires-clause-sendable
 send_own-requires-clause-sendable c = λ none.
     exception_there (asked_of c.args.self.now.request.now) c.args.exception c.number-id.ensures.fits
-    (subst (λ (tape : List ℕ). IsUnsendable (asked_of c.args.self.now.request.now) (reply_of SystemException giop_nodes 23 tape))
+    (subst (λ (tape : List ℕ). IsUnsendable (asked_of c.args.self.now.request.now)
+    (reply_of SystemException giop_nodes 23 tape))
     (c.as_slice.ensures.value ∙ c.in_ok-tape.ensures) none)

@@ -8,7 +8,8 @@ use Rattle.broker_answers.proofs.reply.Replier.send_own.Goals as goal
 pub returns-in-Ok : goal.returns-in-Ok
 returns-in-Ok c =
     let asked = asked_of c.args.self.now.request.now in
-    subst (λ (t : TableParts). IsSent asked (reply_of c.args.status t.model.graph c.args.node c.args.tape.now) c.in-Ok.octets.items)
+    subst (λ (t : TableParts). IsSent asked (reply_of c.args.status t.model.graph c.args.node c.args.tape.now)
+    c.in-Ok.octets.items)
     c.table.ensures (record { written = c.in-Ok.ensures.written; short = c.in-Ok.ensures.limited })
 
 pub unreachable-requires : goal.unreachable-requires

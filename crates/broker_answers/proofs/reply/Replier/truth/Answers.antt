@@ -9,5 +9,6 @@ use Rattle.broker_answers.proofs.reply.Replier.truth.Goals as goal
 pub send_own-requires-clause-sendable : goal.send_own-requires-clause-sendable
 send_own-requires-clause-sendable c = λ none.
     truth_there (asked_of c.args.self.now.request.now) c.args.truth c.number-id.ensures.fits
-    (subst (λ (tape : List ℕ). IsUnsendable (asked_of c.args.self.now.request.now) (reply_of NoException giop_nodes 27 tape))
+    (subst (λ (tape : List ℕ). IsUnsendable (asked_of c.args.self.now.request.now)
+    (reply_of NoException giop_nodes 27 tape))
     (c.as_slice.ensures ∙ c.truth_tape-tape.ensures) none)

@@ -18,7 +18,8 @@ returns-in-Refuses-clause-answered g c =
     let finding = Refuses c.in-Refuses.exception in
     let says = g.S.Servant.says c.args.servant.now in
     let finds = subst (λ f. Finds self asked (finding_of f)) c.in-Refuses.is c.in_ok-exception.ensures.finds in
-    if_ok c.refuse.result (λ octets. (served : Served) (says : Call → Said) → IsAnswered served asked finding says octets.items)
+    if_ok c.refuse.result (λ octets. (served : Served) (says : Call → Said)
+    → IsAnswered served asked finding says octets.items)
     (λ octets. AnswersRequest self asked says octets.items)
     (λ octets h. is_answered self asked finding says octets.items finds (h self says)) c.refuse.ensures
 
@@ -39,7 +40,8 @@ returns-in-Tells-clause-answered g c =
     let finding = Tells c.in-Tells.truth in
     let says = g.S.Servant.says c.args.servant.now in
     let finds = subst (λ f. Finds self asked (finding_of f)) c.in-Tells.is c.in_ok-exception.ensures.finds in
-    if_ok c.tell.result (λ octets. (served : Served) (says : Call → Said) → IsAnswered served asked finding says octets.items)
+    if_ok c.tell.result (λ octets. (served : Served) (says : Call → Said)
+    → IsAnswered served asked finding says octets.items)
     (λ octets. AnswersRequest self asked says octets.items)
     (λ octets h. is_answered self asked finding says octets.items finds (h self says)) c.tell.ensures
 
@@ -77,7 +79,8 @@ returns-in-WithTarget-clause-answered g c =
     if_ok c.reply_to.result (λ octets. Replies self.model asked call.operation.now said octets.items)
     (λ octets. AnswersRequest self asked says octets.items)
     (λ octets h. replied self asked one says call.operation.now said octets.items finds scope known is h)
-    (subst (λ (s : Served). IfOk c.reply_to.result (λ octets. Replies s.model asked call.operation.now said octets.items))
+    (subst (λ (s : Served). IfOk c.reply_to.result
+    (λ octets. Replies s.model asked call.operation.now said octets.items))
     c.self.view_is c.reply_to.ensures)
 
 pub returns-in-WithTarget-clause-moved : goal.returns-in-WithTarget-clause-moved
@@ -90,7 +93,8 @@ returns-in-WithTarget-clause-moved g c =
     on_ok c.reply_to.result (MovesRequest acting self asked c.args.servant.now c.call.new.self)
     (is_moved acting self asked (Calls (call_asked call)) c.args.servant.now c.call.new.self finds
     (c.in_ok-outcome.ensures.after
-    ∙ ap (λ (l : List ℕ). g.S.Servant.after c.args.servant.now (call_of call.object call.number l)) c.as_slice-arguments.ensures.value))
+    ∙ ap (λ (l : List ℕ). g.S.Servant.after c.args.servant.now (call_of call.object call.number l))
+    c.as_slice-arguments.ensures.value))
 
 pub returns-in-WithTarget-clause-given_up : goal.returns-in-WithTarget-clause-given_up
 returns-in-WithTarget-clause-given_up g c =
@@ -102,7 +106,8 @@ returns-in-WithTarget-clause-given_up g c =
     on_err c.reply_to.result (MayMove acting self asked c.args.servant.now c.call.new.self)
     (may_move acting self asked (Calls (call_asked call)) c.args.servant.now c.call.new.self finds
     (inr (c.in_ok-outcome.ensures.after
-    ∙ ap (λ (l : List ℕ). g.S.Servant.after c.args.servant.now (call_of call.object call.number l)) c.as_slice-arguments.ensures.value)))
+    ∙ ap (λ (l : List ℕ). g.S.Servant.after c.args.servant.now (call_of call.object call.number l))
+    c.as_slice-arguments.ensures.value)))
 
 pub returns-in-WithServer-clause-answered : goal.returns-in-WithServer-clause-answered
 returns-in-WithServer-clause-answered g c =
@@ -126,7 +131,8 @@ returns-in-WithServer-clause-moved g c =
     on_ok c.acceptance.result (MovesRequest acting self asked c.args.servant.now c.call.new.self)
     (is_moved acting self asked (Calls (call_asked call)) c.args.servant.now c.call.new.self finds
     (c.in_ok-outcome.ensures.after
-    ∙ ap (λ (l : List ℕ). g.S.Servant.after c.args.servant.now (call_of call.object call.number l)) c.as_slice-arguments.ensures.value))
+    ∙ ap (λ (l : List ℕ). g.S.Servant.after c.args.servant.now (call_of call.object call.number l))
+    c.as_slice-arguments.ensures.value))
 
 pub returns-in-WithServer-clause-given_up : goal.returns-in-WithServer-clause-given_up
 returns-in-WithServer-clause-given_up g c =
@@ -138,7 +144,8 @@ returns-in-WithServer-clause-given_up g c =
     on_err c.acceptance.result (MayMove acting self asked c.args.servant.now c.call.new.self)
     (may_move acting self asked (Calls (call_asked call)) c.args.servant.now c.call.new.self finds
     (inr (c.in_ok-outcome.ensures.after
-    ∙ ap (λ (l : List ℕ). g.S.Servant.after c.args.servant.now (call_of call.object call.number l)) c.as_slice-arguments.ensures.value)))
+    ∙ ap (λ (l : List ℕ). g.S.Servant.after c.args.servant.now (call_of call.object call.number l))
+    c.as_slice-arguments.ensures.value)))
 
 pub returns-clause-answered : goal.returns-clause-answered
 returns-clause-answered g c =
@@ -159,4 +166,5 @@ returns-clause-moved g c =
     let finds = subst (λ f. Finds self asked (finding_of f)) c.in-Calls.is c.in_ok-exception.ensures.finds in
     is_moved acting self asked (Calls (call_asked call)) c.args.servant.now c.call.new.self finds
     (c.in_ok-outcome.ensures.after
-    ∙ ap (λ (l : List ℕ). g.S.Servant.after c.args.servant.now (call_of call.object call.number l)) c.as_slice-arguments.ensures.value)
+    ∙ ap (λ (l : List ℕ). g.S.Servant.after c.args.servant.now (call_of call.object call.number l))
+    c.as_slice-arguments.ensures.value)

@@ -26,7 +26,8 @@ returns-in-Reply-clause-served g c =
     let octets = c.args.octets.now in
     let said = rw c.in-Ok-Some.field-0-is at c.in-Ok-Some.ensures.found in
     let says = subst (λ k. Says octets k) (ap content_of c.in-Reply.is) said in
-    refused_reply acting c.args.self.now octets (answered_of c.in-Reply.field-0) c.args.servant.now c.refuse-in-Reply.result
+    refused_reply acting c.args.self.now octets (answered_of c.in-Reply.field-0) c.args.servant.now
+    c.refuse-in-Reply.result
     says c.refuse-in-Reply.ensures.octets c.refuse-in-Reply.ensures.closes
 
 pub returns-clause-served : goal.returns-clause-served

@@ -7,7 +7,8 @@ use Rattle.broker_loop.proofs.slot.Slot.go_on.Goals as goal
 
 pub returns-then-not-is_sent-clause-on : goal.returns-then-not-is_sent-clause-on
 returns-then-not-is_sent-clause-on g c = λ idle before came ended front back going in_time.
-    sent_on (acts g.S.Servant.says g.S.Servant.after) c.args.broker.now.served idle before came ended c.args.broker.now.world front
+    sent_on (acts g.S.Servant.says g.S.Servant.after) c.args.broker.now.served idle before came ended
+    c.args.broker.now.world front
     c.args.self.now c.send.new.self back c.send.result going in_time c.send.ensures
 
 pub returns-then-not-is_sent-clause-asked : goal.returns-then-not-is_sent-clause-asked
@@ -18,14 +19,17 @@ pub returns-then-is_closed-clause-on : goal.returns-then-is_closed-clause-on
 returns-then-is_closed-clause-on g c = λ idle before came ended front back going in_time.
     let sent : c.args.self.now.waiting ≡ [] = search rules in
     let closed : at c.args.self.now.number c.args.broker.now.world.there ≡ Some Closed = search rules in
-    closed_on (acts g.S.Servant.says g.S.Servant.after) c.args.broker.now.served idle before came ended c.args.broker.now.world front
+    closed_on (acts g.S.Servant.says g.S.Servant.after) c.args.broker.now.served idle before came ended
+    c.args.broker.now.world front
     c.args.self.now back going in_time sent closed
 
 pub returns-clause-on : goal.returns-clause-on
 returns-clause-on g c = λ idle before came ended front back going in_time.
     let sent : c.args.self.now.waiting ≡ [] = search rules in
-    heard_on (acts g.S.Servant.says g.S.Servant.after) c.args.broker.now.served idle before came ended c.args.broker.now.world
-    c.hear.new.broker.world front c.args.self.now c.hear.new.self back c.hear.result going in_time sent c.hear.ensures.heard
+    heard_on (acts g.S.Servant.says g.S.Servant.after) c.args.broker.now.served idle before came ended
+    c.args.broker.now.world
+    c.hear.new.broker.world front c.args.self.now c.hear.new.self back c.hear.result going in_time sent
+    c.hear.ensures.heard
 
 pub returns-clause-asked : goal.returns-clause-asked
 returns-clause-asked g c = λ looks asked.

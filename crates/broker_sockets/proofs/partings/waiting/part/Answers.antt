@@ -10,7 +10,8 @@ returns-in-Still g c =
     record {
       octets = before.0 ++ one.octets;
       shut = one.shut ∙ c.loop.invariant.shut;
-      read = consumes_more (parted c.args.connection.now).left (parted c.loop.connection).left (parted c.step.new.connection).left
+      read = consumes_more (parted c.args.connection.now).left (parted c.loop.connection).left
+          (parted c.step.new.connection).left
           before.0 one.octets before.1 one.read;
       over = inr c.in-Still.ensures.stepped.1;
     }
@@ -23,7 +24,8 @@ returns-in-Over g c =
     record {
       octets = before.0 ++ one.octets;
       shut = one.shut ∙ c.loop.invariant.shut;
-      read = consumes_more (parted c.args.connection.now).left (parted c.loop.connection).left (parted c.step.new.connection).left
+      read = consumes_more (parted c.args.connection.now).left (parted c.loop.connection).left
+          (parted c.step.new.connection).left
           before.0 one.octets before.1 one.read;
       over = inl c.in-Over.ensures.stepped.1;
     }

@@ -7,5 +7,6 @@ invariant-loop g l = record {
   shut : (g.P.Parting.parted l.connection).shut ≡ true;
   room : length l.buffer ≡ length l.fn.buffer;
   skips : (g.P.Parting.parted l.connection).skips ≡ l.counter;
-  read : (octets : List ℕ) × Consumes (g.P.Parting.parted l.fn.connection).left (g.P.Parting.parted l.connection).left octets;
+  read : (octets : List ℕ) × Consumes (g.P.Parting.parted l.fn.connection).left (g.P.Parting.parted l.connection).left
+      octets;
 }

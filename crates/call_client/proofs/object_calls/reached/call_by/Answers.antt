@@ -15,7 +15,8 @@ returns-in-Ok g c =
     (g.D.Dial.lines c.args.dial.now) (g.D.Dial.lines c.loop-listed.dial) (g.D.Dial.lines c.call_to.new.dial)
     c.loop-listed.invariant.vain
     (asking c.args.request.now (given_by c.args.body) c.args.reads)
-    (naming c.args.form (reference_of c.args.ior.now)) c.loop-listed.place c.loop-listed.invariant.place c.in-Iiop.profile c.in-Iiop.is
+    (naming c.args.form (reference_of c.args.ior.now)) c.loop-listed.place c.loop-listed.invariant.place
+    c.in-Iiop.profile c.in-Iiop.is
     (Ok c.in-Ok.answer) (λ e. cc) c.in-Ok.ensures
 
 pub returns-in-Err : goal.returns-in-Err
@@ -25,7 +26,8 @@ returns-in-Err g c =
     (g.D.Dial.lines c.args.dial.now) (g.D.Dial.lines c.loop-listed.dial) (g.D.Dial.lines c.call_to.new.dial)
     c.loop-listed.invariant.vain
     (asking c.args.request.now (given_by c.args.body) c.args.reads)
-    (naming c.args.form (reference_of c.args.ior.now)) c.loop-listed.place c.loop-listed.invariant.place c.in-Iiop.profile c.in-Iiop.is
+    (naming c.args.form (reference_of c.args.ior.now)) c.loop-listed.place c.loop-listed.invariant.place
+    c.in-Iiop.profile c.in-Iiop.is
     (Err c.in-Err.fault) (λ e. c.in-Err.not-NotReached (cc)) c.in-Err.ensures
 
 pub loop-listed-preserved : goal.loop-listed-preserved
@@ -33,7 +35,8 @@ loop-listed-preserved g c = record {
   place = ap (λ n. n + 1) c.loop-listed.invariant.place;
   vain = elim c.match-listed.branch [
     | in-Iiop+in-Err-NotReached w ↦ rw w.dial-is
-        (missed_one (g.D.Dial.went c.args.dial.now) (g.D.Dial.went c.loop-listed.dial) (g.D.Dial.went w.call_to.new.dial)
+        (missed_one (g.D.Dial.went c.args.dial.now) (g.D.Dial.went c.loop-listed.dial)
+        (g.D.Dial.went w.call_to.new.dial)
         c.args.profiles.now c.loop-listed.listed-index c.listed-item.result (search rules) c.listed-item.is
         (g.D.Dial.lines c.args.dial.now) (g.D.Dial.lines c.loop-listed.dial) (g.D.Dial.lines w.call_to.new.dial)
         c.loop-listed.invariant.vain (asking c.args.request.now (given_by c.args.body) c.args.reads)

@@ -12,7 +12,8 @@ returns-in_default g c =
     (called_of c.args.wanted.now) (reference_of c.args.ior) (g.D.Dial.lines c.args.dial.now)
     (g.D.Dial.went c.loop-count.dial) (g.D.Dial.went c.call_heeding.new.dial) c.loop-count._count
     (reference_of c.loop-count.at) (g.D.Dial.lines c.loop-count.dial) (g.D.Dial.lines c.call_heeding.new.dial)
-    c.loop-count.invariant (Ok (Some c.in_default.ended)) (omega arith) (isnt_forwarded c.in_default.ended c.in_default.not-Forwarded)
+    c.loop-count.invariant (Ok (Some c.in_default.ended)) (omega arith)
+    (isnt_forwarded c.in_default.ended c.in_default.not-Forwarded)
     (rw c.in-Some.is at c.in-Ok.ensures)
 
 pub loop-count-preserved : goal.loop-count-preserved

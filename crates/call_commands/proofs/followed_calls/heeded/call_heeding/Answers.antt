@@ -17,7 +17,8 @@ returns-in-Some g c =
 
 pub returns-in-None : goal.returns-in-None
 returns-in-None g c =
-    unasked (g.D.Dial.went c.args.dial.now) (g.D.Dial.went c.args.dial.now) (g.D.Dial.went c.call_twice-answered.new.dial)
+    unasked (g.D.Dial.went c.args.dial.now) (g.D.Dial.went c.args.dial.now)
+    (g.D.Dial.went c.call_twice-answered.new.dial)
     (asking c.args.request.now (given_by c.args.body) c.args.reads)
     (called_of c.args.wanted.now) (reference_of c.args.ior.now) (g.D.Dial.lines c.args.dial.now)
     (g.D.Dial.lines c.args.dial.now) (g.D.Dial.lines c.call_twice-answered.new.dial)

@@ -12,16 +12,19 @@ use Rattle.call_commands.proofs.followed_calls.once.call_once.Goals as goal
 pub returns-in-Some : goal.returns-in-Some
 returns-in-Some g c =
     answered (g.D.Dial.went c.args.dial.now) (g.D.Dial.went c.call_by.new.dial)
-    (in_form c.args.form (asking c.args.request.now (given_by c.args.body) c.args.reads)) (called_of c.args.wanted.now) (reference_of c.args.ior.now)
+    (in_form c.args.form (asking c.args.request.now (given_by c.args.body) c.args.reads)) (called_of c.args.wanted.now)
+    (reference_of c.args.ior.now)
     (rows_of c.as_slice.result.now) (g.D.Dial.lines c.args.dial.now) (g.D.Dial.lines c.call_by.new.dial)
     c.in-Some.answer c.outcome_of.result
     (subst (λ (ps : List ListedProfile). AreRows (reference_of c.args.ior.now).profiles (rows_of ps))
-    (sym c.as_slice.ensures.value) c.in-Ok.ensures.rows_are) (rw c.in-Some.is at c.in-Ok-call_by.ensures) c.outcome_of.ensures
+    (sym c.as_slice.ensures.value) c.in-Ok.ensures.rows_are) (rw c.in-Some.is at c.in-Ok-call_by.ensures)
+    c.outcome_of.ensures
 
 pub returns : goal.returns
 returns g c =
     sent (g.D.Dial.went c.args.dial.now) (g.D.Dial.went c.call_by.new.dial)
-    (in_form c.args.form (asking c.args.request.now (given_by c.args.body) c.args.reads)) (called_of c.args.wanted.now) (reference_of c.args.ior.now)
+    (in_form c.args.form (asking c.args.request.now (given_by c.args.body) c.args.reads)) (called_of c.args.wanted.now)
+    (reference_of c.args.ior.now)
     (rows_of c.as_slice.result.now) (g.D.Dial.lines c.args.dial.now) (g.D.Dial.lines c.call_by.new.dial)
     (subst (λ (ps : List ListedProfile). AreRows (reference_of c.args.ior.now).profiles (rows_of ps))
     (sym c.as_slice.ensures.value) c.in-Ok.ensures.rows_are) (rw c.in-None.is at c.in-Ok-call_by.ensures)
@@ -29,7 +32,8 @@ returns g c =
 pub returns-in-Err-call_by : goal.returns-in-Err-call_by
 returns-in-Err-call_by g c =
     unanswered (g.D.Dial.went c.args.dial.now) (g.D.Dial.went c.call_by.new.dial)
-    (in_form c.args.form (asking c.args.request.now (given_by c.args.body) c.args.reads)) (called_of c.args.wanted.now) (reference_of c.args.ior.now)
+    (in_form c.args.form (asking c.args.request.now (given_by c.args.body) c.args.reads)) (called_of c.args.wanted.now)
+    (reference_of c.args.ior.now)
     (rows_of c.as_slice.result.now) (g.D.Dial.lines c.args.dial.now) (g.D.Dial.lines c.call_by.new.dial)
     c.in-Err-call_by.fault
     (subst (λ (ps : List ListedProfile). AreRows (reference_of c.args.ior.now).profiles (rows_of ps))

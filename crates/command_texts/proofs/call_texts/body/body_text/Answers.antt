@@ -15,6 +15,7 @@ printed-requires-clause-there c =
 pub returns-clause-found : goal.returns-clause-found
 returns-clause-found c =
     text_is c.args.names.now c.args.table.now.model.graph c.graph-graph.result.now c.args.order c.args.node c.args.place
-    c.in-Some.tape.items c.as_slice.result.now c.args.octets.now (string_bytes c.in_ok-printed.field-0) c.in-Some.field-0-1
+    c.in-Some.tape.items c.as_slice.result.now c.args.octets.now (string_bytes c.in_ok-printed.field-0)
+    c.in-Some.field-0-1
     (search rules) (search rules) (some_then c.in_ok-tape.field-0 _ _ c.in-Some.is c.in_ok-tape.ensures.found)
     c.in_ok-printed.ensures

@@ -11,5 +11,6 @@ pub returns-clause-none : goal.returns-clause-none
 returns-clause-none c =
     IfOk-weaker c.body_text.result _ _
     (λ o none. none_weaker o _ _
-    (unread c.args.table.now.model c.args.exceptions.now (answered_of c.args.reply.now) c.in-Some.frame c.in-Some.ensures.found)
+    (unread c.args.table.now.model c.args.exceptions.now (answered_of c.args.reply.now) c.in-Some.frame
+    c.in-Some.ensures.found)
     none) c.body_text.ensures.none

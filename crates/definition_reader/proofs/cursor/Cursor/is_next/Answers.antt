@@ -5,7 +5,10 @@ use Rattle.definition_reader.proofs.cursor.Cursor.is_next.Goals as goal
 pub returns-in-Some : goal.returns-in-Some
 returns-in-Some c =
     let found = c.in-Some.ensures.item in
-    rw (← c.self.view_is) (c.is_this.ensures ∙ sym (first_sees c.args.kind c.args.text.now c.self.inside.number c.self.inside.rest.now c.in-Some.token.now found.3.0 found.1))
+    rw (← c.self.view_is) (c.is_this.ensures
+    ∙ sym (first_sees c.args.kind c.args.text.now c.self.inside.number c.self.inside.rest.now c.in-Some.token.now
+    found.3.0 found.1))
 
 pub returns-in-None : goal.returns-in-None
-returns-in-None c = rw (← c.self.view_is) (sym (none_sees c.args.kind c.args.text.now c.self.inside.number c.self.inside.rest.now c.in-None.ensures.item.3))
+returns-in-None c = rw (← c.self.view_is)
+    (sym (none_sees c.args.kind c.args.text.now c.self.inside.number c.self.inside.rest.now c.in-None.ensures.item.3))

@@ -8,7 +8,8 @@ pub returns-in-Err-keyword-clause-stops : goal.returns-in-Err-keyword-clause-sto
 returns-in-Err-keyword-clause-stops c = past _ c.in-Ok.ensures.way (halts _ c.in-Err-keyword.ensures.stops)
 
 pub returns-in-Err-mark-clause-stops : goal.returns-in-Err-mark-clause-stops
-returns-in-Err-mark-clause-stops c = past _ c.in-Ok.ensures.way (past _ c.in-Ok-keyword.ensures.way (c.in-Err-mark.ensures.stops))
+returns-in-Err-mark-clause-stops c =
+    past _ c.in-Ok.ensures.way (past _ c.in-Ok-keyword.ensures.way (c.in-Err-mark.ensures.stops))
 
 pub returns-clause-way : goal.returns-clause-way
 returns-clause-way c = on _ c.in-Ok.ensures.way (on _ c.in-Ok-keyword.ensures.way (c.in-Ok-mark.ensures.way))

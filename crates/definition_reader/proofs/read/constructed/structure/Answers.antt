@@ -21,4 +21,5 @@ returns-clause-spells c =
 
 pub returns-clause-levels : goal.returns-clause-levels
 returns-clause-levels c =
-    struct_nests c.args.name c.in-Ok.part c.first_boxed.new.list ∙ ap (λ ms. suc (highest member_levels ms)) (sym c.in-Ok.ensures.spells)
+    struct_nests c.args.name c.in-Ok.part c.first_boxed.new.list
+    ∙ ap (λ ms. suc (highest member_levels ms)) (sym c.in-Ok.ensures.spells)

@@ -22,7 +22,8 @@ returns-in-Err-clause-stops c = two_halts _ _ _ _ c.in-Err.ensures.stops
 
 pub returns-in-Err-read_except_members-clause-stops : goal.returns-in-Err-read_except_members-clause-stops
 unfolding except_way
-returns-in-Err-read_except_members-clause-stops c = two_past _ _ _ _ c.in-Ok.ensures.way c.in-Err-read_except_members.ensures.stops
+returns-in-Err-read_except_members-clause-stops c =
+    two_past _ _ _ _ c.in-Ok.ensures.way c.in-Err-read_except_members.ensures.stops
 
 pub returns-clause-way : goal.returns-clause-way
 unfolding except_way

@@ -11,7 +11,8 @@ use Rattle.definition_reader.proofs.read.definitions.read_declared.Goals as goal
 pub returns-clause-spells : goal.returns-clause-spells
 returns-clause-spells c =
     let d = c.in-Ok.part in
-    added_ended definition_yield definition_levels c.args.room _ _ _ (declaration_yield d) (mark (codes ";")) _ _ (Declared d) c.mark.result
+    added_ended definition_yield definition_levels c.args.room _ _ _ (declaration_yield d) (mark (codes ";")) _ _
+    (Declared d) c.mark.result
     c.in-Ok.ensures.spells refl c.in-Ok.ensures.levels c.in-Ok-add_definition.ensures.spells c.mark.ensures.read
 
 pub returns-in-Err-clause-stops : goal.returns-in-Err-clause-stops

@@ -8,7 +8,8 @@ use Rattle.definition_reader.proofs.read.definitions.read_pragma.Goals as goal
 
 pub returns-clause-spells : goal.returns-clause-spells
 returns-clause-spells c =
-    added definition_yield definition_levels c.args.room _ _ _ _ (Pragma c.in-Ok.part) c.add_definition.result c.in-Ok.ensures.read (omega arith) c.add_definition.ensures.spells
+    added definition_yield definition_levels c.args.room _ _ _ _ (Pragma c.in-Ok.part) c.add_definition.result
+    c.in-Ok.ensures.read (omega arith) c.add_definition.ensures.spells
 
 pub returns-clause-way : goal.returns-clause-way
 returns-clause-way c = okay c.add_definition.result c.in-Ok.ensures.way

@@ -27,7 +27,8 @@ invariant-read_operands-parts l = record {
   spells : Continued l.initial.cursor (flat_map operand_yield l.rest.items) l.cursor;
   operands : AllByRecursion (IsOperandOf l.shifts l.level) l.rest.items;
   levels : highest operand_levels l.rest.items ≤ l.room;
-  way : Going (λ u. is_some (operator_at l.shifts l.level u)) (λ u. operand_way (level_way (inside_way l.room) l.shifts (5 - l.level)) (operator_at l.shifts l.level u) u)
+  way : Going (λ u. is_some (operator_at l.shifts l.level u))
+      (λ u. operand_way (level_way (inside_way l.room) l.shifts (5 - l.level)) (operator_at l.shifts l.level u) u)
       l.initial.cursor l.cursor;
 }
 

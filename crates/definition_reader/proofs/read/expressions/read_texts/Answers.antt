@@ -14,4 +14,5 @@ parts-preserved c = record {
 }
 
 pub returns-clause-way : goal.returns-clause-way
-returns-clause-way c = going_ends _ _ _ _ c.parts.invariant.way c.in_default.ensures.unseen ∙ ap Some (sym c.in_default.ensures.missing)
+returns-clause-way c = going_ends _ _ _ _ c.parts.invariant.way c.in_default.ensures.unseen
+    ∙ ap Some (sym c.in_default.ensures.missing)

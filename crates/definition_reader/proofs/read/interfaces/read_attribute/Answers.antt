@@ -13,8 +13,11 @@ pub returns-clause-spells : goal.returns-clause-spells
 returns-clause-spells c =
     let t = c.in-Ok-read_param_type in
     let a = c.in-Ok-read_attributes in
-    subst (λ b. Parsed c.args.cursor.now (readonly_yield b ++ keyword (codes "attribute") ++ param_type_yield t.part ++ attributes_yield a.part) c.read_attributes.new.cursor) (sym a.ensures.kind)
-    (part_then (part_then (more_then_part c.take_readonly-is_readonly.ensures.spells c.in-Ok.ensures.read) t.ensures.spells) a.ensures.spells)
+    subst (λ b. Parsed c.args.cursor.now
+    (readonly_yield b ++ keyword (codes "attribute") ++ param_type_yield t.part ++ attributes_yield a.part)
+    c.read_attributes.new.cursor) (sym a.ensures.kind)
+    (part_then (part_then (more_then_part c.take_readonly-is_readonly.ensures.spells c.in-Ok.ensures.read)
+    t.ensures.spells) a.ensures.spells)
 
 pub returns-in-Err-clause-stops : goal.returns-in-Err-clause-stops
 unfolding attribute_way
@@ -22,12 +25,21 @@ returns-in-Err-clause-stops c = past _ c.take_readonly-is_readonly.ensures.way (
 
 pub returns-in-Err-read_param_type-clause-stops : goal.returns-in-Err-read_param_type-clause-stops
 unfolding attribute_way
-returns-in-Err-read_param_type-clause-stops c = past _ c.take_readonly-is_readonly.ensures.way (past _ c.in-Ok.ensures.way (halts _ c.in-Err-read_param_type.ensures.stops))
+returns-in-Err-read_param_type-clause-stops c =
+    past _ c.take_readonly-is_readonly.ensures.way
+    (past _ c.in-Ok.ensures.way (halts _ c.in-Err-read_param_type.ensures.stops))
 
 pub returns-in-Err-read_attributes-clause-stops : goal.returns-in-Err-read_attributes-clause-stops
 unfolding attribute_way
-returns-in-Err-read_attributes-clause-stops c = past _ c.take_readonly-is_readonly.ensures.way (past _ c.in-Ok.ensures.way (past _ c.in-Ok-read_param_type.ensures.way (rw c.take_readonly-is_readonly.ensures.seen at c.in-Err-read_attributes.ensures.stops)))
+returns-in-Err-read_attributes-clause-stops c =
+    past _ c.take_readonly-is_readonly.ensures.way
+    (past _ c.in-Ok.ensures.way
+    (past _ c.in-Ok-read_param_type.ensures.way
+    (rw c.take_readonly-is_readonly.ensures.seen at c.in-Err-read_attributes.ensures.stops)))
 
 pub returns-clause-way : goal.returns-clause-way
 unfolding attribute_way
-returns-clause-way c = on _ c.take_readonly-is_readonly.ensures.way (on _ c.in-Ok.ensures.way (on _ c.in-Ok-read_param_type.ensures.way (rw c.take_readonly-is_readonly.ensures.seen at c.in-Ok-read_attributes.ensures.way)))
+returns-clause-way c = on _ c.take_readonly-is_readonly.ensures.way
+    (on _ c.in-Ok.ensures.way
+    (on _ c.in-Ok-read_param_type.ensures.way
+    (rw c.take_readonly-is_readonly.ensures.seen at c.in-Ok-read_attributes.ensures.way)))

@@ -9,7 +9,8 @@ use Rattle.definition_reader.proofs.read.interfaces.read_export.Goals as goal
 
 pub returns-then-is_kind-clause-spells : goal.returns-then-is_kind-clause-spells
 returns-then-is_kind-clause-spells c =
-    added export_yield export_levels c.args.room _ _ _ _ (Exports.Pragma c.in-Ok.part) c.add_export.result c.in-Ok.ensures.read (omega arith) c.add_export.ensures.spells
+    added export_yield export_levels c.args.room _ _ _ _ (Exports.Pragma c.in-Ok.part) c.add_export.result
+    c.in-Ok.ensures.read (omega arith) c.add_export.ensures.spells
 
 pub returns-in-Err-clause-stops : goal.returns-in-Err-clause-stops
 unfolding export_way
@@ -17,7 +18,8 @@ returns-in-Err-clause-stops c = halts_seen _ (sym c.is_kind.ensures ∙ c.if-is_
 
 pub returns-then-is_kind-clause-way : goal.returns-then-is_kind-clause-way
 unfolding export_way
-returns-then-is_kind-clause-way c = okay c.add_export.result (seen _ (sym c.is_kind.ensures ∙ c.if-is_kind.true) (c.in-Ok.ensures.way))
+returns-then-is_kind-clause-way c =
+    okay c.add_export.result (seen _ (sym c.is_kind.ensures ∙ c.if-is_kind.true) (c.in-Ok.ensures.way))
 
 pub returns-then-is_kind-clause-stops : goal.returns-then-is_kind-clause-stops
 unfolding export_way
@@ -25,24 +27,44 @@ returns-then-is_kind-clause-stops c = full_stops _ c.add_export.result c.add_exp
 
 pub returns-then-is_declaration-clause-way : goal.returns-then-is_declaration-clause-way
 unfolding export_way
-returns-then-is_declaration-clause-way c = tail_unseen _ _ _ c.read_declared.result (sym c.is_kind.ensures ∙ c.if-is_kind.false) (tail_seen _ _ _ c.read_declared.result (sym c.is_declaration.ensures ∙ c.if-is_declaration.true) (c.read_declared.ensures.way))
+returns-then-is_declaration-clause-way c =
+    tail_unseen _ _ _ c.read_declared.result (sym c.is_kind.ensures ∙ c.if-is_kind.false)
+    (tail_seen _ _ _ c.read_declared.result (sym c.is_declaration.ensures ∙ c.if-is_declaration.true)
+    (c.read_declared.ensures.way))
 
 pub returns-then-is_declaration-clause-stops : goal.returns-then-is_declaration-clause-stops
 unfolding export_way
-returns-then-is_declaration-clause-stops c = tail_halts_unseen _ _ c.read_declared.result (sym c.is_kind.ensures ∙ c.if-is_kind.false) (tail_halts_seen _ _ c.read_declared.result (sym c.is_declaration.ensures ∙ c.if-is_declaration.true) (c.read_declared.ensures.stops))
+returns-then-is_declaration-clause-stops c =
+    tail_halts_unseen _ _ c.read_declared.result (sym c.is_kind.ensures ∙ c.if-is_kind.false)
+    (tail_halts_seen _ _ c.read_declared.result (sym c.is_declaration.ensures ∙ c.if-is_declaration.true)
+    (c.read_declared.ensures.stops))
 
 pub returns-then-is_attribute-clause-way : goal.returns-then-is_attribute-clause-way
 unfolding export_way
-returns-then-is_attribute-clause-way c = tail_unseen _ _ _ c.read_attribute_dcl.result (sym c.is_kind.ensures ∙ c.if-is_kind.false) (tail_unseen _ _ _ c.read_attribute_dcl.result (sym c.is_declaration.ensures ∙ c.if-is_declaration.false) (tail_seen _ _ _ c.read_attribute_dcl.result (sym c.is_attribute.ensures ∙ c.if-is_attribute.true) (c.read_attribute_dcl.ensures.way)))
+returns-then-is_attribute-clause-way c =
+    tail_unseen _ _ _ c.read_attribute_dcl.result (sym c.is_kind.ensures ∙ c.if-is_kind.false)
+    (tail_unseen _ _ _ c.read_attribute_dcl.result (sym c.is_declaration.ensures ∙ c.if-is_declaration.false)
+    (tail_seen _ _ _ c.read_attribute_dcl.result (sym c.is_attribute.ensures ∙ c.if-is_attribute.true)
+    (c.read_attribute_dcl.ensures.way)))
 
 pub returns-then-is_attribute-clause-stops : goal.returns-then-is_attribute-clause-stops
 unfolding export_way
-returns-then-is_attribute-clause-stops c = tail_halts_unseen _ _ c.read_attribute_dcl.result (sym c.is_kind.ensures ∙ c.if-is_kind.false) (tail_halts_unseen _ _ c.read_attribute_dcl.result (sym c.is_declaration.ensures ∙ c.if-is_declaration.false) (tail_halts_seen _ _ c.read_attribute_dcl.result (sym c.is_attribute.ensures ∙ c.if-is_attribute.true) (c.read_attribute_dcl.ensures.stops)))
+returns-then-is_attribute-clause-stops c =
+    tail_halts_unseen _ _ c.read_attribute_dcl.result (sym c.is_kind.ensures ∙ c.if-is_kind.false)
+    (tail_halts_unseen _ _ c.read_attribute_dcl.result (sym c.is_declaration.ensures ∙ c.if-is_declaration.false)
+    (tail_halts_seen _ _ c.read_attribute_dcl.result (sym c.is_attribute.ensures ∙ c.if-is_attribute.true)
+    (c.read_attribute_dcl.ensures.stops)))
 
 pub returns-clause-way : goal.returns-clause-way
 unfolding export_way
-returns-clause-way c = tail_unseen _ _ _ c.read_operation_dcl.result (sym c.is_kind.ensures ∙ c.if-is_kind.false) (tail_unseen _ _ _ c.read_operation_dcl.result (sym c.is_declaration.ensures ∙ c.if-is_declaration.false) (tail_unseen _ _ _ c.read_operation_dcl.result (sym c.is_attribute.ensures ∙ c.if-is_attribute.false) (c.read_operation_dcl.ensures.way)))
+returns-clause-way c = tail_unseen _ _ _ c.read_operation_dcl.result (sym c.is_kind.ensures ∙ c.if-is_kind.false)
+    (tail_unseen _ _ _ c.read_operation_dcl.result (sym c.is_declaration.ensures ∙ c.if-is_declaration.false)
+    (tail_unseen _ _ _ c.read_operation_dcl.result (sym c.is_attribute.ensures ∙ c.if-is_attribute.false)
+    (c.read_operation_dcl.ensures.way)))
 
 pub returns-clause-stops : goal.returns-clause-stops
 unfolding export_way
-returns-clause-stops c = tail_halts_unseen _ _ c.read_operation_dcl.result (sym c.is_kind.ensures ∙ c.if-is_kind.false) (tail_halts_unseen _ _ c.read_operation_dcl.result (sym c.is_declaration.ensures ∙ c.if-is_declaration.false) (tail_halts_unseen _ _ c.read_operation_dcl.result (sym c.is_attribute.ensures ∙ c.if-is_attribute.false) (c.read_operation_dcl.ensures.stops)))
+returns-clause-stops c = tail_halts_unseen _ _ c.read_operation_dcl.result (sym c.is_kind.ensures ∙ c.if-is_kind.false)
+    (tail_halts_unseen _ _ c.read_operation_dcl.result (sym c.is_declaration.ensures ∙ c.if-is_declaration.false)
+    (tail_halts_unseen _ _ c.read_operation_dcl.result (sym c.is_attribute.ensures ∙ c.if-is_attribute.false)
+    (c.read_operation_dcl.ensures.stops)))

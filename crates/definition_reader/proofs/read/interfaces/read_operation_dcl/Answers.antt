@@ -11,7 +11,8 @@ use Rattle.definition_reader.proofs.read.interfaces.read_operation_dcl.Goals as 
 pub returns-clause-spells : goal.returns-clause-spells
 returns-clause-spells c =
     let d = c.in-Ok.part in
-    added_ended export_yield export_levels c.args.room _ _ _ (operation_yield d) (mark (codes ";")) _ _ (Exports.Operation d) c.mark.result
+    added_ended export_yield export_levels c.args.room _ _ _ (operation_yield d) (mark (codes ";")) _ _
+    (Exports.Operation d) c.mark.result
     c.in-Ok.ensures.spells refl c.in-Ok.ensures.levels c.in-Ok-add_export.ensures.spells c.mark.ensures.read
 
 pub returns-in-Err-clause-stops : goal.returns-in-Err-clause-stops

@@ -5,7 +5,9 @@ pub returns-then-take_keyword-clause-way : goal.returns-then-take_keyword-clause
 returns-then-take_keyword-clause-way c = seen _ c.if-take_keyword.ensures.seen c.if-take_keyword.ensures.way
 
 pub returns-in-Err-clause-stops : goal.returns-in-Err-clause-stops
-returns-in-Err-clause-stops c = halts_unseen _ c.if-take_keyword.ensures.unseen (rw (← c.if-take_keyword.ensures.missing) (c.in-Err.ensures.stops))
+returns-in-Err-clause-stops c =
+    halts_unseen _ c.if-take_keyword.ensures.unseen (rw (← c.if-take_keyword.ensures.missing) (c.in-Err.ensures.stops))
 
 pub returns-clause-way : goal.returns-clause-way
-returns-clause-way c = unseen _ c.if-take_keyword.ensures.unseen (rw (← c.if-take_keyword.ensures.missing) (c.in-Ok.ensures.way))
+returns-clause-way c = unseen _ c.if-take_keyword.ensures.unseen
+    (rw (← c.if-take_keyword.ensures.missing) (c.in-Ok.ensures.way))

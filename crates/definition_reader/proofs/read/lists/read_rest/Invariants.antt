@@ -12,7 +12,8 @@ abbrev pub invariant-parts : goal.invariant-parts
 invariant-parts g l = record {
   spells : Continued l.initial.cursor (flat_map (λ x. mark (codes ",") ++ g.T.Part.yield_of x) l.rest.items) l.cursor;
   levels : highest g.T.Part.levels_of l.rest.items ≤ l.room;
-  way : Going (sees_mark (codes ",")) (λ u. and_then (mark_taken (codes ",") u) (g.T.Part.way_of l.room)) l.initial.cursor l.cursor;
+  way : Going (sees_mark (codes ",")) (λ u. and_then (mark_taken (codes ",") u) (g.T.Part.way_of l.room))
+      l.initial.cursor l.cursor;
 }
 
 abbrev pub decreases-parts : goal.decreases-parts

@@ -13,13 +13,17 @@ pub parts-preserved : goal.parts-preserved
 parts-preserved c =
     let spelled = then_read _ _ _ _ _ c.parts-test.ensures.read c.in-Ok.ensures.read in
     record {
-      spells = one_more (λ x. mark (codes "::") ++ identifier x) _ _ _ _ _ _ c.parts.invariant.spells spelled c.in-Ok-add.ensures.spells;
-      way = going_on _ _ _ _ _ c.parts.invariant.way c.parts-test.ensures.seen (on _ c.parts-test.ensures.way c.in-Ok.ensures.way) spelled.on;
+      spells = one_more (λ x. mark (codes "::") ++ identifier x) _ _ _ _ _ _ c.parts.invariant.spells spelled
+          c.in-Ok-add.ensures.spells;
+      way = going_on _ _ _ _ _ c.parts.invariant.way c.parts-test.ensures.seen
+          (on _ c.parts-test.ensures.way c.in-Ok.ensures.way) spelled.on;
     }
 
 pub returns-in-Err-clause-stops : goal.returns-in-Err-clause-stops
 returns-in-Err-clause-stops c =
-    going_stops _ _ _ _ _ c.parts.invariant.way c.parts-test.ensures.seen (past _ c.parts-test.ensures.way c.in-Err.ensures.stops)
+    going_stops _ _ _ _ _ c.parts.invariant.way c.parts-test.ensures.seen
+    (past _ c.parts-test.ensures.way c.in-Err.ensures.stops)
 
 pub returns-clause-way : goal.returns-clause-way
-returns-clause-way c = going_ends _ _ _ _ c.parts.invariant.way c.parts-test.ensures.unseen ∙ ap Some (sym c.parts-test.ensures.missing)
+returns-clause-way c = going_ends _ _ _ _ c.parts.invariant.way c.parts-test.ensures.unseen
+    ∙ ap Some (sym c.parts-test.ensures.missing)

@@ -11,7 +11,8 @@ use Rattle.definition_reader.proofs.read.names.read_parts.Given as goal
 abbrev pub invariant-parts : goal.invariant-parts
 invariant-parts l = record {
   spells : Continued l.fn.cursor (flat_map (λ x. mark (codes "::") ++ identifier x) l.rest.items) l.cursor;
-  way : Going (sees_mark (codes "::")) (λ u. and_then (mark_taken (codes "::") u) (λ v. identifier_way v)) l.fn.cursor l.cursor;
+  way : Going (sees_mark (codes "::")) (λ u. and_then (mark_taken (codes "::") u) (λ v. identifier_way v)) l.fn.cursor
+      l.cursor;
 }
 
 abbrev pub decreases-parts : goal.decreases-parts

@@ -4,16 +4,21 @@ use Rattle.definition_reader.proofs.read.types.read_enum.Goals as goal
 
 pub returns-clause-spells : goal.returns-clause-spells
 returns-clause-spells c =
-    rw c.in-Ok-boxed.ensures.spells (part_then (part_then c.in-Ok.ensures.spells c.in-Ok-read_listed.ensures.spells) c.in-Ok-mark.ensures.read)
+    rw c.in-Ok-boxed.ensures.spells
+    (part_then (part_then c.in-Ok.ensures.spells c.in-Ok-read_listed.ensures.spells) c.in-Ok-mark.ensures.read)
 
 pub returns-in-Err-clause-stops : goal.returns-in-Err-clause-stops
 returns-in-Err-clause-stops c = halts _ c.in-Err.ensures.stops
 
 pub returns-in-Err-read_listed-clause-stops : goal.returns-in-Err-read_listed-clause-stops
-returns-in-Err-read_listed-clause-stops c = past _ (opened_on _ _ _ _ c.in-Ok.ensures.levels c.in-Ok.ensures.way) (halts _ c.in-Err-read_listed.ensures.stops)
+returns-in-Err-read_listed-clause-stops c =
+    past _ (opened_on _ _ _ _ c.in-Ok.ensures.levels c.in-Ok.ensures.way) (halts _ c.in-Err-read_listed.ensures.stops)
 
 pub returns-in-Err-mark-clause-stops : goal.returns-in-Err-mark-clause-stops
-returns-in-Err-mark-clause-stops c = past _ (opened_on _ _ _ _ c.in-Ok.ensures.levels c.in-Ok.ensures.way) (past _ c.in-Ok-read_listed.ensures.way c.in-Err-mark.ensures.stops)
+returns-in-Err-mark-clause-stops c =
+    past _ (opened_on _ _ _ _ c.in-Ok.ensures.levels c.in-Ok.ensures.way)
+    (past _ c.in-Ok-read_listed.ensures.way c.in-Err-mark.ensures.stops)
 
 pub returns-clause-way : goal.returns-clause-way
-returns-clause-way c = on _ (opened_on _ _ _ _ c.in-Ok.ensures.levels c.in-Ok.ensures.way) (on _ c.in-Ok-read_listed.ensures.way c.in-Ok-mark.ensures.way)
+returns-clause-way c = on _ (opened_on _ _ _ _ c.in-Ok.ensures.levels c.in-Ok.ensures.way)
+    (on _ c.in-Ok-read_listed.ensures.way c.in-Ok-mark.ensures.way)

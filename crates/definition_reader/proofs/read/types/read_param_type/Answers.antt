@@ -8,8 +8,10 @@ returns-then-take_keyword-clause-way c = seen _ c.if-take_keyword.ensures.seen c
 
 pub returns-in-Err-clause-stops : goal.returns-in-Err-clause-stops
 unfolding param_type_way
-returns-in-Err-clause-stops c = halts_unseen _ c.if-take_keyword.ensures.unseen (rw (← c.if-take_keyword.ensures.missing) (c.in-Err.ensures.stops))
+returns-in-Err-clause-stops c =
+    halts_unseen _ c.if-take_keyword.ensures.unseen (rw (← c.if-take_keyword.ensures.missing) (c.in-Err.ensures.stops))
 
 pub returns-clause-way : goal.returns-clause-way
 unfolding param_type_way
-returns-clause-way c = unseen _ c.if-take_keyword.ensures.unseen (rw (← c.if-take_keyword.ensures.missing) (c.in-Ok.ensures.way))
+returns-clause-way c = unseen _ c.if-take_keyword.ensures.unseen
+    (rw (← c.if-take_keyword.ensures.missing) (c.in-Ok.ensures.way))

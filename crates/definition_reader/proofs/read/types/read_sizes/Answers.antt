@@ -6,17 +6,25 @@ use Rattle.definition_reader.proofs.Ways.{going_begins, going_on, going_ends, go
 use Rattle.definition_reader.proofs.read.types.read_sizes.Goals as goal
 
 pub parts-init : goal.parts-init
-parts-init c = record { spells = none_read _ _ _ c.new-sizes.ensures.items; levels = none_high _ _ _ c.new-sizes.ensures.items; way = going_begins _ _ _ }
+parts-init c = record {
+  spells = none_read _ _ _ c.new-sizes.ensures.items;
+  levels =
+      none_high _ _ _ c.new-sizes.ensures.items;
+  way = going_begins _ _ _;
+}
 
 pub parts-preserved : goal.parts-preserved
 parts-preserved c = record {
   spells = one_more size_yield _ _ _ _ _ _ c.parts.invariant.spells c.in-Ok.ensures.spells c.in-Ok-add.ensures.spells;
-  levels = one_more_level const_expr_levels _ _ _ _ c.parts.invariant.levels c.in-Ok.ensures.levels c.in-Ok-add.ensures.spells;
-  way = going_on _ _ _ _ _ c.parts.invariant.way (sym c.is_mark.ensures ∙ c.parts-test.true) c.in-Ok.ensures.way c.in-Ok.ensures.spells.on;
+  levels = one_more_level const_expr_levels _ _ _ _ c.parts.invariant.levels c.in-Ok.ensures.levels
+      c.in-Ok-add.ensures.spells;
+  way = going_on _ _ _ _ _ c.parts.invariant.way (sym c.is_mark.ensures ∙ c.parts-test.true) c.in-Ok.ensures.way
+      c.in-Ok.ensures.spells.on;
 }
 
 pub returns-in-Err-clause-stops : goal.returns-in-Err-clause-stops
-returns-in-Err-clause-stops c = going_stops _ _ _ _ _ c.parts.invariant.way (sym c.is_mark.ensures ∙ c.parts-test.true) c.in-Err.ensures.stops
+returns-in-Err-clause-stops c =
+    going_stops _ _ _ _ _ c.parts.invariant.way (sym c.is_mark.ensures ∙ c.parts-test.true) c.in-Err.ensures.stops
 
 pub returns-clause-way : goal.returns-clause-way
 returns-clause-way c = going_ends _ _ _ _ c.parts.invariant.way (sym c.is_mark.ensures ∙ c.parts-test.false)

@@ -4,16 +4,23 @@ use Rattle.definition_reader.proofs.Ways.{on, halts, past, seen, unseen, halts_s
 use Rattle.definition_reader.proofs.read.types.read_string_bound.Goals as goal
 
 pub returns-clause-spells : goal.returns-clause-spells
-returns-clause-spells c = maybe_none (part_then (part_then c.if-not-take_mark.ensures.read c.in-Ok.ensures.spells) c.in-Ok-mark.ensures.read)
+returns-clause-spells c =
+    maybe_none (part_then (part_then c.if-not-take_mark.ensures.read c.in-Ok.ensures.spells) c.in-Ok-mark.ensures.read)
 
 pub returns-then-not-take_mark-clause-way : goal.returns-then-not-take_mark-clause-way
-returns-then-not-take_mark-clause-way c = unseen _ c.if-not-take_mark.ensures.unseen (ap Some (sym c.if-not-take_mark.ensures.missing))
+returns-then-not-take_mark-clause-way c =
+    unseen _ c.if-not-take_mark.ensures.unseen (ap Some (sym c.if-not-take_mark.ensures.missing))
 
 pub returns-in-Err-clause-stops : goal.returns-in-Err-clause-stops
-returns-in-Err-clause-stops c = halts_seen _ c.if-not-take_mark.ensures.seen (past _ c.if-not-take_mark.ensures.way (halts _ c.in-Err.ensures.stops))
+returns-in-Err-clause-stops c =
+    halts_seen _ c.if-not-take_mark.ensures.seen
+    (past _ c.if-not-take_mark.ensures.way (halts _ c.in-Err.ensures.stops))
 
 pub returns-in-Err-mark-clause-stops : goal.returns-in-Err-mark-clause-stops
-returns-in-Err-mark-clause-stops c = halts_seen _ c.if-not-take_mark.ensures.seen (past _ c.if-not-take_mark.ensures.way (past _ c.in-Ok.ensures.way c.in-Err-mark.ensures.stops))
+returns-in-Err-mark-clause-stops c =
+    halts_seen _ c.if-not-take_mark.ensures.seen
+    (past _ c.if-not-take_mark.ensures.way (past _ c.in-Ok.ensures.way c.in-Err-mark.ensures.stops))
 
 pub returns-clause-way : goal.returns-clause-way
-returns-clause-way c = seen _ c.if-not-take_mark.ensures.seen (on _ c.if-not-take_mark.ensures.way (on _ c.in-Ok.ensures.way c.in-Ok-mark.ensures.way))
+returns-clause-way c = seen _ c.if-not-take_mark.ensures.seen
+    (on _ c.if-not-take_mark.ensures.way (on _ c.in-Ok.ensures.way c.in-Ok-mark.ensures.way))

@@ -6,9 +6,11 @@ use Rattle.diagnostic_views.proofs.source_places.places.line_start.Goals as goal
 pub returns-then-end-left : goal.returns-then-end-left
 returns-then-end-left c =
     let rest : c.split_at.result.1.now ≡ drop c.loop-number.start c.args.source.now = c.split_at.ensures.back in
-    let end : position_or_len is_feed (drop c.loop-number.start c.args.source.now) ≡ length (drop c.loop-number.start c.args.source.now) =
+    let end : position_or_len is_feed (drop c.loop-number.start c.args.source.now)
+    ≡ length (drop c.loop-number.start c.args.source.now) =
     ap (position_or_len is_feed) (sym rest) ∙ sym c.line_len-end.ensures.value ∙ c.if-end-left.true ∙ ap length rest in
-    let counted = no_line c.args.source.now c.loop-number.number c.loop-number.start c.loop-number.invariant.begun end in
+    let counted = no_line c.args.source.now c.loop-number.number c.loop-number.start c.loop-number.invariant.begun end
+    in
     let less : c.loop-number.number < c.args.line = c.loop-number-test.true in
     inr (omega arith)
 
@@ -20,9 +22,11 @@ loop-number-preserved c =
     let size = ap length rest in
     let within = c.line_len-end.ensures.within in
     let apart = c.if-end-left.false in
-    let ends : position_or_len is_feed (drop c.loop-number.start c.args.source.now) < length (drop c.loop-number.start c.args.source.now) = omega arith in
+    let ends : position_or_len is_feed (drop c.loop-number.start c.args.source.now) < length
+    (drop c.loop-number.start c.args.source.now) = omega arith in
     let less : c.loop-number.number < c.args.line = c.loop-number-test.true in
     record {
-      begun = rw end (next_line c.args.source.now c.loop-number.number c.loop-number.start c.loop-number.invariant.begun ends);
+      begun = rw end (next_line c.args.source.now c.loop-number.number c.loop-number.start c.loop-number.invariant.begun
+          ends);
       within = omega arith;
     }

@@ -12,7 +12,8 @@ loop-line-preserved c =
     let less : length rest < length left = shorter left c.in-Some.line.now rest c.in-Some.ensures in
     record {
       same = ap (λ (p : PlaceParts). behind_all p (slice_split (λ c. c == 10) rest)) c.following-place.ensures.value
-          ∙ sym (further (place_parts c.loop-line.place) left c.in-Some.line.now rest c.in-Some.ensures) ∙ c.loop-line.invariant.same;
+          ∙ sym (further (place_parts c.loop-line.place) left c.in-Some.line.now rest c.in-Some.ensures)
+          ∙ c.loop-line.invariant.same;
       fits = elim c.following-place.ensures.within [ inl small ↦ omega arith | inr next ↦ omega arith ];
       short = omega arith;
     }
@@ -21,4 +22,5 @@ pub returns : goal.returns
 unfolding place_of
 returns c =
     sym (last (place_parts c.loop-line.place) c.loop-line.left.now c.in_default.ensures) ∙ c.loop-line.invariant.same
-    ∙ ap (λ (s : List ℕ). behind_all (record { file = Option.None; line = 1 }) (slice_split (λ c. c == 10) s)) c.split_at.ensures.front
+    ∙ ap (λ (s : List ℕ). behind_all (record { file = Option.None; line = 1 }) (slice_split (λ c. c == 10) s))
+    c.split_at.ensures.front

@@ -6,7 +6,8 @@ use Rattle.diagnostic_views.proofs.source_places.places.place_at.Given as goal
 
 abbrev pub invariant-loop-line : goal.invariant-loop-line
 invariant-loop-line l = record {
-  same : behind_all (place_parts l.place) (slice_split (λ c. c == 10) l.left) ≡ behind_all (place_parts l.initial.place) (slice_split (λ c. c == 10) l.initial.left);
+  same : behind_all (place_parts l.place) (slice_split (λ c. c == 10) l.left)
+      ≡ behind_all (place_parts l.initial.place) (slice_split (λ c. c == 10) l.initial.left);
   fits : l.place.line + length l.left ≤ 2 ^ 63 + 1000000000;
   short : length l.left ≤ 2 ^ 63;
 }

@@ -11,14 +11,16 @@ use Rattle.giop.proofs.giop_calls.Giop.write_request_to.Goals as goal
 pub returns-clause-written : goal.returns-clause-written
 returns-clause-written c =
     written (λ octets. octets.items) c.args.order 0 17
-    (request_tree c.args.id c.args.flags (octet_trees (0 ∷ 0 ∷ 0 ∷ [])) (target_tree c.args.target) c.args.operation.now NoTree)
+    (request_tree c.args.id c.args.flags (octet_trees (0 ∷ 0 ∷ 0 ∷ [])) (target_tree c.args.target) c.args.operation.now
+    NoTree)
     c.as_slice.result.now (given_by c.args.body) c.write.result c.in-Ok.ensures.fits
     (c.as_slice.ensures.value ∙ c.in-Ok.ensures.tape) c.write.ensures.made
 
 pub returns-clause-refused : goal.returns-clause-refused
 returns-clause-refused c =
     refused c.args.order 0 17
-    (request_tree c.args.id c.args.flags (octet_trees (0 ∷ 0 ∷ 0 ∷ [])) (target_tree c.args.target) c.args.operation.now NoTree)
+    (request_tree c.args.id c.args.flags (octet_trees (0 ∷ 0 ∷ 0 ∷ [])) (target_tree c.args.target) c.args.operation.now
+    NoTree)
     c.as_slice.result.now (given_by c.args.body) c.write.result c.in-Ok.ensures.fits
     (c.as_slice.ensures.value ∙ c.in-Ok.ensures.tape) c.write.ensures.refused
 

@@ -7,7 +7,8 @@ use Rattle.giop.proofs.reading.header.request_header.Goals as goal
 
 pub returns-in_default-split_u8-clause-refused : goal.returns-in_default-split_u8-clause-refused
 returns-in_default-split_u8-clause-refused c = λ value rest b.
-    no_flags value c.args.tape.now rest c.in-Some.id c.in-Some.behind.now b c.in-Some.ensures.found.0 c.in-Some.ensures.found.1
+    no_flags value c.args.tape.now rest c.in-Some.id c.in-Some.behind.now b c.in-Some.ensures.found.0
+    c.in-Some.ensures.found.1
     c.in_default-split_u8.ensures.refused
 
 pub returns-in_default-skip_reserved-clause-refused : goal.returns-in_default-skip_reserved-clause-refused

@@ -6,7 +6,8 @@ use Rattle.giop.proofs.reading.profile.profile_key.Goals as goal
 pub returns-in-Some : goal.returns-in-Some
 returns-in-Some c =
     has_key (c.args.tag, c.args.octets.now) (iiop_of c.in-Some.profile)
-    (some_then c.in_ok-profile.field-0 c.in-Some.profile (λ profile. IsIiop (c.args.tag, c.args.octets.now) (iiop_of profile))
+    (some_then c.in_ok-profile.field-0 c.in-Some.profile
+    (λ profile. IsIiop (c.args.tag, c.args.octets.now) (iiop_of profile))
     c.in-Some.is c.in_ok-profile.ensures.found)
 
 pub returns-in-None : goal.returns-in-None

@@ -19,27 +19,32 @@ returns-in-0-clause-found c =
 
 pub returns-in-0-clause-refused : goal.returns-in-0-clause-refused
 returns-in-0-clause-refused c =
-    labelled_refused 0 c.args.tape.now c.in-Some.behind.now c.split_key.result (at c.args.tape.now c.in-Some.behind.now c.in-Some.label 0 c.in-Some.ensures.found.1 c.in-0.is)
+    labelled_refused 0 c.args.tape.now c.in-Some.behind.now c.split_key.result
+    (at c.args.tape.now c.in-Some.behind.now c.in-Some.label 0 c.in-Some.ensures.found.1 c.in-0.is)
     c.split_key.ensures.refused
 
 pub returns-in-1-clause-found : goal.returns-in-1-clause-found
 returns-in-1-clause-found c =
     labelled_found (λ r target rest. TellsTarget target r.0 × (rest ≡ r.1.now)) 1 c.args.tape.now c.in-Some.behind.now
-    c.split_profile.result (at c.args.tape.now c.in-Some.behind.now c.in-Some.label 1 c.in-Some.ensures.found.1 c.in-1.is)
+    c.split_profile.result (at c.args.tape.now c.in-Some.behind.now c.in-Some.label 1 c.in-Some.ensures.found.1
+    c.in-1.is)
     c.split_profile.ensures.found
 
 pub returns-in-1-clause-refused : goal.returns-in-1-clause-refused
 returns-in-1-clause-refused c =
-    labelled_refused 1 c.args.tape.now c.in-Some.behind.now c.split_profile.result (at c.args.tape.now c.in-Some.behind.now c.in-Some.label 1 c.in-Some.ensures.found.1 c.in-1.is)
+    labelled_refused 1 c.args.tape.now c.in-Some.behind.now c.split_profile.result
+    (at c.args.tape.now c.in-Some.behind.now c.in-Some.label 1 c.in-Some.ensures.found.1 c.in-1.is)
     c.split_profile.ensures.refused
 
 pub returns-in-2-clause-found : goal.returns-in-2-clause-found
 returns-in-2-clause-found c =
     labelled_found (λ r target rest. TellsTarget target r.0 × (rest ≡ r.1.now)) 2 c.args.tape.now c.in-Some.behind.now
-    c.split_reference.result (at c.args.tape.now c.in-Some.behind.now c.in-Some.label 2 c.in-Some.ensures.found.1 c.in-2.is)
+    c.split_reference.result
+    (at c.args.tape.now c.in-Some.behind.now c.in-Some.label 2 c.in-Some.ensures.found.1 c.in-2.is)
     c.split_reference.ensures.found
 
 pub returns-in-2-clause-refused : goal.returns-in-2-clause-refused
 returns-in-2-clause-refused c =
-    labelled_refused 2 c.args.tape.now c.in-Some.behind.now c.split_reference.result (at c.args.tape.now c.in-Some.behind.now c.in-Some.label 2 c.in-Some.ensures.found.1 c.in-2.is)
+    labelled_refused 2 c.args.tape.now c.in-Some.behind.now c.split_reference.result
+    (at c.args.tape.now c.in-Some.behind.now c.in-Some.label 2 c.in-Some.ensures.found.1 c.in-2.is)
     c.split_reference.ensures.refused

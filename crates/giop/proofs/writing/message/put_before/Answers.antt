@@ -8,6 +8,11 @@ returns c =
     let spliced = c.in_ok-splice.ensures.items in
     let given = spliced.2 in
     items_from_extend {E = Unit {0}} {P = λ (front : List ℕ). c.splice.new.self.items ≡ front ++ c.args.octets.items}
-    (Ok tt)
-    (spliced.0, spliced.1, refl, spliced.4 ∙ ap (λ octets. spliced.1 ++ octets) c.in_ok-reserve_exact.ensures.items, spliced.3)
+    (Ok tt) (
+      spliced.0,
+      spliced.1,
+      refl,
+      spliced.4 ∙ ap (λ octets. spliced.1 ++ octets) c.in_ok-reserve_exact.ensures.items,
+      spliced.3,
+    )
     (YieldsList-from_vec c.args.front.items given.0 (given.1 ∙ c.args.front.ok.0))

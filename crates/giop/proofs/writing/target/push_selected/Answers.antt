@@ -13,8 +13,10 @@ returns-clause-added c =
     let after = c.push_reference.new.tape.items in
     let small : c.args.selected < 2 ^ 32 = search rules in
     let text : IsText 0 reference.type_id = search rules in
-    let number : c.push_u32.new.tape.items ≡ c.push_u16.new.tape.items ++ word Big Four (pos c.args.selected) = search rules in
-    on_ok_both c.push_reference.result (IsReference reference × (after ≡ c.push_u32.new.tape.items ++ reference_tape reference)) _ _
+    let number : c.push_u32.new.tape.items ≡ c.push_u16.new.tape.items ++ word Big Four (pos c.args.selected) =
+    search rules in
+    on_ok_both c.push_reference.result
+    (IsReference reference × (after ≡ c.push_u32.new.tape.items ++ reference_tape reference)) _ _
     (λ both octets. reference_pushed c.args.selected reference c.args.tape.now.items
     c.push_u16.new.tape.items c.push_u32.new.tape.items after small text octets both.0
     c.in_ok-push_u16.ensures number both.1)

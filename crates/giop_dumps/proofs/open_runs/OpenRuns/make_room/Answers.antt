@@ -8,7 +8,8 @@ loop-alloc-smaller c =
     let oldest : IsOldest c.in-Some.id c.loop-alloc.self = c.in-Some.ensures.some in
     let less : length (without c.in-Some.id c.loop-alloc.self) + 1 ≡ length c.loop-alloc.self =
     length-without c.in-Some.id c.loop-alloc.self oldest.run oldest.there in
-    let left : length c.take.new.self ≡ length (without c.in-Some.id c.loop-alloc.self) = ap length c.take.ensures.left in
+    let left : length c.take.new.self ≡ length (without c.in-Some.id c.loop-alloc.self) =
+    ap length c.take.ensures.left in
     omega (arith, less, left)
 
 pub loop-alloc-preserved : goal.loop-alloc-preserved
@@ -20,4 +21,5 @@ loop-alloc-preserved c = λ after made.
 
 pub returns-clause-made : goal.returns-clause-made
 returns-clause-made c =
-    c.loop-alloc.invariant c.loop-alloc.self (HasRoom c.loop-alloc.self (sym c.has_room.ensures ∙ c.loop-alloc-test.false))
+    c.loop-alloc.invariant c.loop-alloc.self
+    (HasRoom c.loop-alloc.self (sym c.has_room.ensures ∙ c.loop-alloc-test.false))

@@ -15,5 +15,6 @@ invariant_of-self-2 c =
     subst (λ (rs : Runs). has_room (length lent) rs ≡ true) (sym c.self.view_is) c.in_ok-lines.ensures.room in
     subst (λ (n : ℕ). AreHeld c.insert.new.self.entries n) (sym c.saturating_sub-self-inside.ensures)
     (more_held c.args.id c.args.run c.self.inside.runs.entries c.insert.new.self.entries lent c.self.inside.held
-    c.match-branch-3.replaced c.in_ok-other.field-0 c.len-count.ensures.ordered c.self.invariant room c.octets-len.ensures.octets
+    c.match-branch-3.replaced c.in_ok-other.field-0 c.len-count.ensures.ordered c.self.invariant room
+    c.octets-len.ensures.octets
     c.in_ok-other.ensures.old c.in_ok-other.ensures.entries (more_by_one _ _ _ c.in_ok-other.ensures.len) less)

@@ -9,9 +9,12 @@ use Rattle.giop_types.proofs.Named.{named}
 use Rattle.giop_types.proofs.types.GiopTypes.read.Goals as goal
 
 pub read-requires : goal.read-requires
-read-requires c = subst (λ (t : TableParts). IsNamed t.model.names c.args.node) (sym c.self.invariant) (named c.args.node c.requires)
+read-requires c = subst (λ (t : TableParts). IsNamed t.model.names c.args.node) (sym c.self.invariant)
+    (named c.args.node c.requires)
 
 pub returns-clause-refused : goal.returns-clause-refused
 returns-clause-refused c =
-    subst (λ (t : TableParts). IfErr c.read.result (λ fault. OnFalse (wants_memory fault) ((tape front rest : List ℕ) → c.args.octets.now ≡ front ++ rest
-    → Means t.model.graph (reading c.args.order) 64 c.args.node c.args.pos tape front → ⊥))) c.self.invariant c.read.ensures.refused
+    subst (λ (t : TableParts). IfErr c.read.result
+    (λ fault. OnFalse (wants_memory fault) ((tape front rest : List ℕ) → c.args.octets.now ≡ front ++ rest
+    → Means t.model.graph (reading c.args.order) 64 c.args.node c.args.pos tape front → ⊥))) c.self.invariant
+    c.read.ensures.refused

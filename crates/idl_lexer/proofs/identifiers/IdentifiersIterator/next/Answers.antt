@@ -18,17 +18,20 @@ ascii_text-requires c = cut_ascii c.past_others-from.result.now _ _ c.split_at.e
 
 pub returns-then-is_empty-clause-steps : goal.returns-then-is_empty-clause-steps
 returns-then-is_empty-clause-steps c =
-    words-end c.args.self.now.rest.now _ _ _ _ c.past_others-from.ensures c.word_len.ensures.value c.split_at.ensures.front c.split_at.ensures.back
+    words-end c.args.self.now.rest.now _ _ _ _ c.past_others-from.ensures c.word_len.ensures.value
+    c.split_at.ensures.front c.split_at.ensures.back
     (eqb-true _ 0 (sym c.is_empty.ensures ∙ c.if-is_empty.true))
 
 pub returns-else-is_empty-clause-steps : goal.returns-else-is_empty-clause-steps
 returns-else-is_empty-clause-steps c =
-    words-step c.args.self.now.rest.now _ _ _ _ c.past_others-from.ensures c.word_len.ensures.value c.split_at.ensures.front c.split_at.ensures.back
+    words-step c.args.self.now.rest.now _ _ _ _ c.past_others-from.ensures c.word_len.ensures.value
+    c.split_at.ensures.front c.split_at.ensures.back
     (some _ (sym c.is_empty.ensures ∙ c.if-is_empty.false))
     ∙ ap (λ w. w ∷ words c.split_at.result.1.now) (sym c.ascii_text.ensures)
 
 pub returns-else-is_empty-clause-goes : goal.returns-else-is_empty-clause-goes
 returns-else-is_empty-clause-goes c =
-    let step = words-step c.args.self.now.rest.now _ _ _ _ c.past_others-from.ensures c.word_len.ensures.value c.split_at.ensures.front c.split_at.ensures.back
+    let step = words-step c.args.self.now.rest.now _ _ _ _ c.past_others-from.ensures c.word_len.ensures.value
+    c.split_at.ensures.front c.split_at.ensures.back
     (some _ (sym c.is_empty.ensures ∙ c.if-is_empty.false)) in
     record { on = λ finite. (tt, tt, omega (arith, ap length step)); keeps = tt; rests = λ finite. tt }

@@ -12,13 +12,15 @@ count e = length (expr_yield e)
 
 pub overflow_add-result : goal.overflow_add-result
 overflow_add-result t c =
-    let whole = ap count c.in-Parenthesized.is ∙ parenthesized_length c.in-Parenthesized.paren c.in-Parenthesized.inner in
+    let whole = ap count c.in-Parenthesized.is
+    ∙ parenthesized_length c.in-Parenthesized.paren c.in-Parenthesized.inner in
     let inner = c.token_count-in-Parenthesized.ensures ∙ ap count c.deref-in-Parenthesized.ensures in
     omega (arith, whole, inner, c.requires)
 
 pub returns-in-Parenthesized : goal.returns-in-Parenthesized
 returns-in-Parenthesized t c =
-    let whole = ap count c.in-Parenthesized.is ∙ parenthesized_length c.in-Parenthesized.paren c.in-Parenthesized.inner in
+    let whole = ap count c.in-Parenthesized.is
+    ∙ parenthesized_length c.in-Parenthesized.paren c.in-Parenthesized.inner in
     let inner = c.token_count-in-Parenthesized.ensures ∙ ap count c.deref-in-Parenthesized.ensures in
     omega (arith, whole, inner)
 
@@ -44,7 +46,13 @@ pub returns-in-Number-3 : goal.returns-in-Number-3
 returns-in-Number-3 t c = one_length c.args.self.now c.in-Number.is
 
 pub returns-in-Text : goal.returns-in-Text
-returns-in-Text t c = omega (arith, ap count c.in-Text.is ∙ text_length c.in-Text.texts, ap (λ l. length (parts l)) c.deref.ensures, c.len.ensures)
+returns-in-Text t c = omega (
+  arith,
+  ap count c.in-Text.is
+      ∙ text_length c.in-Text.texts,
+  ap (λ l. length (parts l)) c.deref.ensures,
+  c.len.ensures,
+)
 
 pub loop-part-init : goal.loop-part-init
 loop-part-init t c =
@@ -54,17 +62,34 @@ loop-part-init t c =
 
 pub overflow_add-count : goal.overflow_add-count
 overflow_add-count t c =
-    let here = operands_from c.deref-part-items.result.now c.loop-part.part-index c.part-item.result (omega arith) (sym c.part-item.is) in
-    omega (arith, here, c.loop-part.invariant, c.operator_tokens.ensures, c.token_count-in-loop-part.ensures, c.requires)
+    let here = operands_from c.deref-part-items.result.now c.loop-part.part-index c.part-item.result (omega arith)
+    (sym c.part-item.is) in
+    omega (
+      arith,
+      here,
+      c.loop-part.invariant,
+      c.operator_tokens.ensures,
+      c.token_count-in-loop-part.ensures,
+      c.requires,
+    )
 
 pub overflow_add-count-in-loop-part : goal.overflow_add-count-in-loop-part
 overflow_add-count-in-loop-part t c =
-    let here = operands_from c.deref-part-items.result.now c.loop-part.part-index c.part-item.result (omega arith) (sym c.part-item.is) in
-    omega (arith, here, c.loop-part.invariant, c.operator_tokens.ensures, c.token_count-in-loop-part.ensures, c.requires)
+    let here = operands_from c.deref-part-items.result.now c.loop-part.part-index c.part-item.result (omega arith)
+    (sym c.part-item.is) in
+    omega (
+      arith,
+      here,
+      c.loop-part.invariant,
+      c.operator_tokens.ensures,
+      c.token_count-in-loop-part.ensures,
+      c.requires,
+    )
 
 pub loop-part-preserved : goal.loop-part-preserved
 loop-part-preserved t c =
-    let here = operands_from c.deref-part-items.result.now c.loop-part.part-index c.part-item.result (omega arith) (sym c.part-item.is) in
+    let here = operands_from c.deref-part-items.result.now c.loop-part.part-index c.part-item.result (omega arith)
+    (sym c.part-item.is) in
     omega (arith, here, c.loop-part.invariant, c.operator_tokens.ensures, c.token_count-in-loop-part.ensures)
 
 pub returns-after-loop-part : goal.returns-after-loop-part

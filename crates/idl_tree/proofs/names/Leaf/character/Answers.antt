@@ -7,4 +7,5 @@ use Rattle.idl_tree.proofs.names.Leaf.character.Goals as goal
 pub returns : goal.returns
 returns c =
     let text = c.args.self.now.token.text.now in
-    ∥∥₁_elim c.requires (hlevel props) (λ literal. c.character_value.ensures literal ∙ sym (IsCharLiteral-octet text (length text) literal))
+    ∥∥₁_elim c.requires (hlevel props) (λ literal. c.character_value.ensures literal
+    ∙ sym (IsCharLiteral-octet text (length text) literal))

@@ -1,4 +1,4 @@
-use Rattle.idl_tree.proofs.Definitions.{same_spec}
+use Rattle.idl_tree.proofs.TreeDefinitions.{same_spec}
 use Rattle.idl_tree.proofs.tree_laws.laws.spec_is_one.Goals as goal
 
 pub returns : goal.returns

@@ -23,8 +23,10 @@ use Rattle.idlc_c.specs.contracts.handle.Handle.{the_row, the_type}
 owned_keyless : (alloc : Global) (at : Ptr) (loaded : Bool) (table : Option TableParts) (names : Labels)
     → Keyless (owns_table alloc at loaded table names)
 owned_keyless alloc at false None [] = tt
-owned_keyless alloc at true (Some table) names =
-    (lies held.the_row the_send at (record { table = table; names = names }), frees.frees alloc (raw (lone held.the_row.mir)) at)
+owned_keyless alloc at true (Some table) names = (
+  lies held.the_row the_send at (record { table = table; names = names }),
+  frees.frees alloc (raw (lone held.the_row.mir)) at,
+)
 owned_keyless alloc at false None (name ∷ names) = tt
 owned_keyless alloc at false (Some table) names = tt
 owned_keyless alloc at true None names = tt

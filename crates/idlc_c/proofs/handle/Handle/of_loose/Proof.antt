@@ -30,15 +30,25 @@ stayed = (stay_dropped _ yes, tt)
 pub of_loose_spec : {M : Type 1} → statement M
 of_loose_spec 𝓤 𝓛 𝓜 𝓡 wired =
     let H = 𝓛.H in let 𝓣 = tables 𝓤 H 𝓜 𝓡 𝓡.env in let c = f.clauses 𝓛 𝓜.mem 𝓡.returns in let fn = code.function in
-    proved_at 𝓛 f.ended stayed c 𝓜 𝓡 (Goes-dropped 𝓛 0 (plain (λ _. Table)) yes (λ κs x w. refl), tt) f.Key.name fn (code.unfolded 𝓤 H 𝓜 𝓡 wired) (λ z are.
-    let d = z.0.3.0 in let Post : Val → SProp 𝓤 = (walk_of 𝓛 f.ended stayed c).post z in let Run : List Val → SProp 𝓤 = λ ws. WpFn 𝓤 H 𝓣.C 𝓣.Λ fn ws Post in
-    let runs : (w : Val) → z.0.4.0 ≡ w ∷ [] → ent 𝓤 (Run (w ∷ [])) (Run (z.0.4.0 ++ [])) = λ w e. subst (λ (us : List Val). ent 𝓤 (Run (w ∷ [])) (Run us)) (sym (λ i. e i ++ [])) (id⊢ 𝓤 (Run (w ∷ []))) in
-    qed 𝓛 ((‵ ftrue ⊛ ‵ (fsep (Table.own_val d z.0.4.0) ftrue)) ∷ raw ((c z.0.0 z.0.3).requires z.1) ∷ []) ∵ split ! $ drop ! $ fsplit ! $ move ! (1 ∷ 2 ∷ []) $ drop ! $ drop ! $
+    proved_at 𝓛 f.ended stayed c 𝓜 𝓡 (Goes-dropped 𝓛 0 (plain (λ _. Table)) yes (λ κs x w. refl), tt) f.Key.name fn
+    (code.unfolded 𝓤 H 𝓜 𝓡 wired) (λ z are.
+    let d = z.0.3.0 in let Post : Val → SProp 𝓤 = (walk_of 𝓛 f.ended stayed c).post z in let Run : List Val → SProp 𝓤 =
+    λ ws. WpFn 𝓤 H 𝓣.C 𝓣.Λ fn ws Post in
+    let runs : (w : Val) → z.0.4.0 ≡ w ∷ [] → ent 𝓤 (Run (w ∷ [])) (Run (z.0.4.0 ++ [])) =
+    λ w e. subst (λ (us : List Val). ent 𝓤 (Run (w ∷ [])) (Run us)) (sym (λ i. e i ++ [])) (id⊢ 𝓤 (Run (w ∷ []))) in
+    qed 𝓛 ((‵ ftrue ⊛ ‵ (fsep (Table.own_val d z.0.4.0) ftrue)) ∷ raw ((c z.0.0 z.0.3).requires z.1) ∷ []) ∵ split ! $
+    drop ! $ fsplit ! $ move ! (1 ∷ 2 ∷ []) $ drop ! $ drop ! $
     loose_out the_row Z LZ ghosts ! d z.0.4.0 (λ b o h e ws fits.
     let w : Val = both (vptr b o) h in
-    suffices ! (Run (w ∷ [])) (runs w ws) $ enter ! 𝓣.C 𝓣.Λ fn (w ∷ []) Post $ alloc_all ! (λ l. pass_all ! refl (loose_good the_row Z LZ ghosts b o h fits, tt) $
-    sets ! (of_opd ! (get_in ! (fld ! refl (stop !)) (sub ! 0 refl (whole !)))) refl (tt, tt) $ sets ! (of_opd ! (get_in ! (fld ! refl (stop !)) (sub ! 1 refl (whole !)))) refl fits $
+    suffices ! (Run (w ∷ [])) (runs w ws) $ enter ! 𝓣.C 𝓣.Λ fn (w ∷ []) Post $ alloc_all !
+    (λ l. pass_all ! refl (loose_good the_row Z LZ ghosts b o h fits, tt) $
+    sets ! (of_opd ! (get_in ! (fld ! refl (stop !)) (sub ! 0 refl (whole !)))) refl (tt, tt) $ sets !
+    (of_opd ! (get_in ! (fld ! refl (stop !)) (sub ! 1 refl (whole !)))) refl fits $
     sets ! (of_opd ! (get ! refl)) refl (tt, tt) $
-    sets ! (agg ! (and_then ! (get ! refl) (and_then ! (true_lit !) (and_then ! (get ! refl) (no_more !))))) refl (held_good (block_ptr b o) true h fits) $
-    held_in ! (held (block_ptr b o) true d.alloc (Some d.value.table) d.value.names) h $ returns ! (look_at ! 0 refl) $ free_all ! refl $
-    suffices ! _ (ends_at 𝓛 f.ended stayed c z (three (block_ptr b o) true h) (held (block_ptr b o) true d.alloc (Some d.value.table) d.value.names) (tt, tt) (tt, tt)) $ says ! (refl, refl) $ nothing ! $ nothing ! $ fjoin ! $ join ! $ nothing ! $ join ! $ done !)))
+    sets ! (agg ! (and_then ! (get ! refl) (and_then ! (true_lit !) (and_then ! (get ! refl) (no_more !))))) refl
+    (held_good (block_ptr b o) true h fits) $
+    held_in ! (held (block_ptr b o) true d.alloc (Some d.value.table) d.value.names) h $ returns ! (look_at ! 0 refl) $
+    free_all ! refl $
+    suffices ! _ (ends_at 𝓛 f.ended stayed c z (three (block_ptr b o) true h)
+    (held (block_ptr b o) true d.alloc (Some d.value.table) d.value.names) (tt, tt) (tt, tt)) $ says ! (refl, refl)
+    $ nothing ! $ nothing ! $ fjoin ! $ join ! $ nothing ! $ join ! $ done !)))

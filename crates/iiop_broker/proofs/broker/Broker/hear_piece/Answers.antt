@@ -44,7 +44,8 @@ returns-in-Ok-hear-clause-answered g c =
     let heard = c.in-Ok-hear.heard in
     let servant = c.hear.new.self.servant in
     let new = streams_of c.exchange-in-Ok-hear.new.connections.items in
-    let place = subst (λ xs. IsPlace 0 c.args.c c.in-Some.place (streams_of xs)) c.as_slice.ensures.value c.in-Some.ensures.found in
+    let place = subst (λ xs. IsPlace 0 c.args.c c.in-Some.place (streams_of xs)) c.as_slice.ensures.value
+    c.in-Some.ensures.found in
     let now : new ≡ put c.args.c (stream_of heard.kept) old =
     c.exchange-in-Ok-hear.ensures.now
     ∙ ap (put c.args.c (stream_of heard.kept)) c.exchange.ensures.now
@@ -70,6 +71,7 @@ returns-in-Err-hear-clause-refused g c =
     let servant = c.hear.new.self.servant in
     subst (λ b. (j : ℕ) × Abandons rests (Moves acting b.served) b.world c.args.c octets j []
     (world servant (streams_of c.exchange.new.connections.items))) c.self.view_is
-    (stopped_step acting service c.args.c old (streams_of c.exchange.new.connections.items) run rest octets s servant there
+    (stopped_step acting service c.args.c old (streams_of c.exchange.new.connections.items) run rest octets s servant
+    there
     (subst (λ (all : List ℕ). Stopped acting service (cut run all).raws s servant) c.in-Ok.ensures.items
     c.in-Err-hear.ensures.given_up) c.exchange.ensures.now)

@@ -36,7 +36,8 @@ returns-in-Ok-clause-turned g c =
     c.in-Some.is c.split_at.ensures.front c.in_ok-add.ensures.added c.if-frame.false in
     let after = c.serve.new.servant in
     let answer = c.in-Ok.answer in
-    let served = subst (λ (m : List ℕ). ServesRaw acting service (Some m) before answer.octets.items answer.closes after)
+    let served = subst (λ (m : List ℕ). ServesRaw acting service (Some m) before answer.octets.items answer.closes
+    after)
     c.octets.ensures.is c.in-Ok.ensures.served in
     message_turned acting service c.args.run octets grown None frame.len before c.turned.result after front_is
     (frame_part c.args.run octets frame c.requires.placed)
@@ -54,6 +55,7 @@ returns-clause-given_up g c =
     let grown = c.add.new.self in
     let front_is = fragment_front c.args.run there octets piece grown frame false c.requires.placed c.requires.fragment
     c.in-Some.is c.split_at.ensures.front c.in_ok-add.ensures.added c.if-frame.false in
-    message_stopped acting service c.args.run octets grown None (drop frame.len octets) before c.serve.new.servant front_is
+    message_stopped acting service c.args.run octets grown None (drop frame.len octets) before c.serve.new.servant
+    front_is
     (subst (λ (m : List ℕ). MayMoveRaw acting service (Some m) before c.serve.new.servant) c.octets.ensures.is
     c.in-Err.ensures.given_up)

@@ -21,7 +21,8 @@ add_struct-returns t c =
     c.in-Ok-add_member.ensures ∙ ap (λ m. steps_in c.open.new.self ++ member_steps m) c.deref.ensures
     ∙ ap (λ xs. xs ++ first) c.in-Ok.ensures in
     let so_far : steps_in c.add_members.new.self ≡ ((old ++ opened) ++ first) ++ others =
-    c.in-Ok-add_members.ensures ∙ ap (λ ms. steps_in c.add_member.new.self ++ flat_map member_steps ms) c.as_slice.ensures.value
+    c.in-Ok-add_members.ensures ∙ ap (λ ms. steps_in c.add_member.new.self ++ flat_map member_steps ms)
+    c.as_slice.ensures.value
     ∙ ap (λ xs. xs ++ others) begun in
     on_ok_weaker c.leaves.result
     (λ is. is ∙ ap (λ xs. xs ++ Leaves ∷ []) so_far ∙ behind_two old opened first others (Leaves ∷ [])
@@ -38,9 +39,12 @@ add_union-returns t c =
     let others = flat_map case_steps u.rest.items in
     let begun : steps_in c.add_case.new.self ≡ ((old ++ opened) ++ switched) ++ first =
     c.in-Ok-add_case.ensures ∙ ap (λ k. steps_in c.add_switch.new.self ++ case_steps k) c.deref.ensures
-    ∙ ap (λ xs. xs ++ first) (c.in-Ok-add_switch.ensures ∙ ap (λ k. steps_in c.open.new.self ++ switch_steps k) c.deref-chosen.ensures ∙ ap (λ xs. xs ++ switched) c.in-Ok.ensures) in
+    ∙ ap (λ xs. xs ++ first) (c.in-Ok-add_switch.ensures
+    ∙ ap (λ k. steps_in c.open.new.self ++ switch_steps k) c.deref-chosen.ensures
+    ∙ ap (λ xs. xs ++ switched) c.in-Ok.ensures) in
     let so_far : steps_in c.add_cases.new.self ≡ (((old ++ opened) ++ switched) ++ first) ++ others =
-    c.in-Ok-add_cases.ensures ∙ ap (λ ks. steps_in c.add_case.new.self ++ flat_map case_steps ks) c.as_slice.ensures.value
+    c.in-Ok-add_cases.ensures ∙ ap (λ ks. steps_in c.add_case.new.self ++ flat_map case_steps ks)
+    c.as_slice.ensures.value
     ∙ ap (λ xs. xs ++ others) begun in
     on_ok_weaker c.leaves.result
     (λ is. is ∙ ap (λ xs. xs ++ Leaves ∷ []) so_far ∙ behind_three old opened switched first others (Leaves ∷ [])

@@ -5,4 +5,5 @@ use Rattle.name_steps.specs.StepsKept.{steps_in}
 use Rattle.name_steps.proofs.step.Steps.add_exports.Given as goal
 
 abbrev pub invariant-loop-export : goal.invariant-loop-export
-invariant-loop-export l = steps_in l.self ++ flat_map export_steps (drop l.export-index l.exports) ≡ steps_in l.fn.self ++ flat_map export_steps l.exports
+invariant-loop-export l = steps_in l.self ++ flat_map export_steps (drop l.export-index l.exports)
+    ≡ steps_in l.fn.self ++ flat_map export_steps l.exports

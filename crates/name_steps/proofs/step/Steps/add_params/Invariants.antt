@@ -5,4 +5,5 @@ use Rattle.name_steps.specs.StepsKept.{steps_in}
 use Rattle.name_steps.proofs.step.Steps.add_params.Given as goal
 
 abbrev pub invariant-loop-param : goal.invariant-loop-param
-invariant-loop-param l = steps_in l.self ++ flat_map (param_steps l.identifier) (drop l.param-index l.rest) ≡ steps_in l.fn.self ++ flat_map (param_steps l.identifier) (optional_parts l.fn.params)
+invariant-loop-param l = steps_in l.self ++ flat_map (param_steps l.identifier) (drop l.param-index l.rest)
+    ≡ steps_in l.fn.self ++ flat_map (param_steps l.identifier) (optional_parts l.fn.params)

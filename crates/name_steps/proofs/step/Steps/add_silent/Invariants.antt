@@ -6,4 +6,5 @@ use Rattle.name_steps.specs.StepsKept.{steps_in}
 use Rattle.name_steps.proofs.step.Steps.add_silent.Given as goal
 
 abbrev pub invariant-loop-identifier : goal.invariant-loop-identifier
-invariant-loop-identifier l = steps_in l.self ++ map (DeclaresFeature Attribute) (drop l.identifier-index l.rest) ≡ steps_in l.fn.self ++ map (DeclaresFeature Attribute) (parts l.identifiers)
+invariant-loop-identifier l = steps_in l.self ++ map (DeclaresFeature Attribute) (drop l.identifier-index l.rest)
+    ≡ steps_in l.fn.self ++ map (DeclaresFeature Attribute) (parts l.identifiers)

@@ -10,4 +10,6 @@ returns-clause-len g c = c.len.ensures.len ∙ c.self.invariant.counted ∙ ap l
 
 pub returns-clause-distinct : goal.returns-clause-distinct
 returns-clause-distinct g c =
-    subst (IsDistinct _) c.self.view_is (distinct_by (eq_by_cmp g.K.Ord.cmp) _ (λ x y. sym (g.met.K.Ord.matches_eq x y)) (keys_in c.self.inside.past) c.self.invariant.distinct)
+    subst (IsDistinct _) c.self.view_is
+    (distinct_by (eq_by_cmp g.K.Ord.cmp) _ (λ x y. sym (g.met.K.Ord.matches_eq x y)) (keys_in c.self.inside.past)
+    c.self.invariant.distinct)

@@ -8,4 +8,5 @@ use Rattle.name_table.proofs.record.Heir.other.Goals as goal
 pub returns : goal.returns
 returns c =
     let word = c.args.word in
-    c.copied.ensures ∙ c.get.ensures.value ∙ lookup_same (is_at (word_cmp word)) (is_word word.text.now) (word_found word) c.args.self.now.others.entries
+    c.copied.ensures ∙ c.get.ensures.value
+    ∙ lookup_same (is_at (word_cmp word)) (is_word word.text.now) (word_found word) c.args.self.now.others.entries

@@ -8,4 +8,5 @@ use Rattle.name_table.proofs.shortcuts.Shortcut.declares.Goals as goal
 pub returns : goal.returns
 returns c =
     let word = c.args.word in
-    c.contains.ensures ∙ any_same (is_at (word_cmp word)) (is_word word.text.now) (word_found word) c.args.self.now.words.keys
+    c.contains.ensures ∙ any_same (is_at (word_cmp word)) (is_word word.text.now) (word_found word)
+    c.args.self.now.words.keys

@@ -8,7 +8,8 @@ pub returns-clause-is : goal.returns-clause-is
 returns-clause-is c =
     let es = c.args.self.now in
     sym (sym (ap (named es c.args.scope.0) (c.new-word.ensures ∙ c.name.ensures))
-    ∙ named_is c.self.inside.keys c.self.inside.records.items es c.self.view_is c.self.invariant.0.keyed _ c.number_of.result
+    ∙ named_is c.self.inside.keys c.self.inside.records.items es c.self.view_is c.self.invariant.0.keyed _
+    c.number_of.result
     (sym c.number_of.ensures.is) c.args.scope.0 c.new-word.result.text.now (λ r. refl))
 
 pub returns-then-is_bare-clause-is : goal.returns-then-is_bare-clause-is

@@ -15,12 +15,14 @@ words_to_merge-requires-clause-last c =
     let records = c.self.inside.records.items in
     let same : latest (entries_in records) ≡ latest c.args.self.now = ap latest c.self.view_is in
     let late = c.requires.late in
-    subst (λ xs. HasNoneFrom xs c.args.inner.0 c.args.base.token) c.self.view_is (none_from records c.args.base.token (omega arith) c.args.inner.0)
+    subst (λ xs. HasNoneFrom xs c.args.inner.0 c.args.base.token) c.self.view_is
+    (none_from records c.args.base.token (omega arith) c.args.inner.0)
 
 pub words_to_merge-requires-clause-first : goal.words_to_merge-requires-clause-first
 words_to_merge-requires-clause-first c =
     let records = c.self.inside.records.items in
-    let count : length c.args.self.now ≡ length records = sym (ap length c.self.view_is) ∙ length-map records entry_of in
+    let count : length c.args.self.now ≡ length records = sym (ap length c.self.view_is)
+    ∙ length-map records entry_of in
     let placed : c.in-Some.heir.now.first.entry < length records =
     first_placed records c.self.invariant.0.placed c.args.inner.0 c.in-Some.heir.now
     (sym (c.in-Some.ensures ∙ ap (λ xs. heir_of xs c.args.inner.0) c.as_slice.ensures.value)) in
@@ -33,13 +35,15 @@ words_to_merge-requires-clause-earlier c =
     let same : latest (entries_in records) ≡ latest c.args.self.now = ap latest c.self.view_is in
     let late = c.requires.late in
     let last = none_from records c.args.base.token (omega arith) inner in
-    first_before records inner c.args.base.token c.in-Some.heir.now (sym (c.in-Some.ensures ∙ ap (λ xs. heir_of xs inner) c.as_slice.ensures.value)) last
+    first_before records inner c.args.base.token c.in-Some.heir.now
+    (sym (c.in-Some.ensures ∙ ap (λ xs. heir_of xs inner) c.as_slice.ensures.value)) last
 
 pub returns-in_ok-words-in-Some : goal.returns-in_ok-words-in-Some
 returns-in_ok-words-in-Some c =
     let es = c.args.self.now in
     let words = c.in_ok-words-in-Some.words.items in
-    c.differ_in_some.ensures ∙ ap (list_any (λ w. differ_in es c.args.inner.0 c.args.base w.text.now)) c.as_slice-in-Some.ensures.value
+    c.differ_in_some.ensures ∙ ap (list_any (λ w. differ_in es c.args.inner.0 c.args.base w.text.now))
+    c.as_slice-in-Some.ensures.value
     ∙ differ_words es c.args.inner.0 c.args.base words c.in_ok-words-in-Some.ensures
 
 pub returns-in-None : goal.returns-in-None
@@ -47,4 +51,6 @@ returns-in-None c =
     let records = c.self.inside.records.items in
     let inner = c.args.inner.0 in
     let none = sym (c.in-None.ensures ∙ ap (λ xs. heir_of xs inner) c.as_slice.ensures.value) in
-    differ_none c.args.self.now inner c.args.base (λ name. without_bases records c.args.self.now c.self.view_is c.self.invariant.0.searched c.args.base.token inner name none)
+    differ_none c.args.self.now inner c.args.base
+    (λ name. without_bases records c.args.self.now c.self.view_is c.self.invariant.0.searched c.args.base.token
+    inner name none)

@@ -21,7 +21,8 @@ push-requires-clause-late c =
     let es = c.args.self.now in
     let first = take c.loop-number.number es in
     let none : latest c.loop-number.features ≡ 0 =
-    ap latest c.loop-number.invariant ∙ latest_features first ∙ latest_bare first (bare_take es c.loop-number.number c.requires) in
+    ap latest c.loop-number.invariant ∙ latest_features first
+    ∙ latest_bare first (bare_take es c.loop-number.number c.requires) in
     omega (arith, none)
 
 pub loop-number-preserved : goal.loop-number-preserved
@@ -34,6 +35,7 @@ loop-number-preserved c =
     ∙ ap (λ xs. xs ++ f ∷ []) c.loop-number.invariant
     ∙ ap (λ x. features_of (take n es) ++ x ∷ []) (
     c.as_feature-feature.ensures.is
-    ∙ ap (λ bs. let x : Entry = record (as_feature e) { bases = bs } in x) (sym (bare_at es n e c.requires c.record.ensures))
+    ∙ ap (λ bs. let x : Entry = record (as_feature e) { bases = bs } in x)
+    (sym (bare_at es n e c.requires c.record.ensures))
     )
     ∙ sym (features_take es n e c.record.ensures)

@@ -19,7 +19,9 @@ returns-clause-given c =
       | in-None b ↦ b.first-is ∙ ap (first_of h) b.in-None.ensures
     ] in
     some_both c.merged.result
-    (λ g told fits. given_is es c.args.inner.0 h base w c.inherited-old.result c.within-new.result (lookup (is_word w) h.others.entries) g c.requires.kept refl
+    (λ g told fits. given_is es c.args.inner.0 h base w c.inherited-old.result c.within-new.result
+    (lookup (is_word w) h.others.entries) g c.requires.kept refl
     c.inherited-old.ensures (c.within-new.ensures ∙ ap (λ s. within es base.token s w) next) told
-    (subst (λ f. (t : ℕ) → given_before t g ≡ given_then f base.token c.inherited-old.result c.within-new.result t) first_is fits))
+    (subst (λ f. (t : ℕ) → given_before t g ≡ given_then f base.token c.inherited-old.result c.within-new.result t)
+    first_is fits))
     c.merged.ensures.told c.merged.ensures.given

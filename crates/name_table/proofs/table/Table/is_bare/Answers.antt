@@ -21,4 +21,5 @@ returns-else-scope-len c = λ empty name.
     let inside = c.self.inside in
     let words = inside.words.items in
     subst (λ es. named es c.args.scope.0 name ≡ None) c.self.view_is
-    (bare inside.records.items words c.self.invariant.0.listed c.args.scope.0 name (words_past words c.args.scope.0 (omega arith)))
+    (bare inside.records.items words c.self.invariant.0.listed c.args.scope.0 name
+    (words_past words c.args.scope.0 (omega arith)))

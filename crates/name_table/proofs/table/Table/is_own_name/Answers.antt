@@ -14,7 +14,8 @@ returns-in-Some-get c =
     let xs = c.deref.result.now in
     let r = c.in-Some-get.record.now in
     let scope : key.scope.0 ≡ suc k = omega arith in
-    let there : slice_get xs k ≡ Some r = slice_get_read xs (length xs) k r refl c.in-Some-get.ensures.lookup.3.0 c.in-Some-get.ensures.lookup.1 in
+    let there : slice_get xs k ≡ Some r =
+    slice_get_read xs (length xs) k r refl c.in-Some-get.ensures.lookup.3.0 c.in-Some-get.ensures.lookup.1 in
     let here : slice_get es k ≡ Some (entry_of r) =
     sym (ap (λ ys. slice_get ys k) c.self.view_is) ∙ slice_get-map entry_of c.self.inside.records.items k
     ∙ ap (option_map entry_of) (ap (λ ys. slice_get ys k) (sym c.deref.ensures.value) ∙ there) in
@@ -30,5 +31,6 @@ returns-in-None c =
     let scope : key.scope.0 ≡ suc k = omega arith in
     let here : slice_get es k ≡ None =
     sym (ap (λ ys. slice_get ys k) c.self.view_is) ∙ slice_get-map entry_of c.self.inside.records.items k
-    ∙ ap (option_map entry_of) (ap (λ ys. slice_get ys k) (sym c.deref.ensures.value) ∙ slice_get_past xs k c.in-None.ensures.lookup.3) in
+    ∙ ap (option_map entry_of) (ap (λ ys. slice_get ys k) (sym c.deref.ensures.value)
+    ∙ slice_get_past xs k c.in-None.ensures.lookup.3) in
     sym (ap (λ s. is_own_name es s name) scope ∙ ap (is_named_so name) here)

@@ -7,5 +7,6 @@ abbrev pub invariant-loop-identifier : goal.invariant-loop-identifier
 invariant-loop-identifier l = record {
   small : (e : ℕ) → l.seen ≡ Seen e → e < 2 ^ 63;
   placed : (e : ℕ) → l.seen ≡ Seen e → e < length l.self;
-  same : inside l.self l.token l.seen (map word (drop l.identifier-index l.identifier-items)) ≡ sees l.self l.fn.scope.0 l.name;
+  same : inside l.self l.token l.seen (map word (drop l.identifier-index l.identifier-items))
+      ≡ sees l.self l.fn.scope.0 l.name;
 }

@@ -24,6 +24,7 @@ loop-word-preserved c =
       same =
           ap (λ found. inside es token found rest) found_is
           ∙ sym (ap (inside es token (Seen e)) split)
-          ∙ sym (ap (λ found. inside es token found (map unescaped (words_left c.loop-word.word-iterator))) c.in-Seen.is)
+          ∙ sym (ap (λ found. inside es token found (map unescaped (words_left c.loop-word.word-iterator)))
+          c.in-Seen.is)
           ∙ c.loop-word.invariant.same;
     }

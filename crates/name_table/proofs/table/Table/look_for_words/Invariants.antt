@@ -9,5 +9,6 @@ use Rattle.name_table.proofs.table.Table.look_for_words.Given as goal
 abbrev pub invariant-loop-word : goal.invariant-loop-word
 invariant-loop-word l = record {
   small : (e : ℕ) → l.seen ≡ Seen e → e < 2 ^ 63;
-  same : inside l.self l.token l.seen (map unescaped (words_left l.word-iterator)) ≡ identifiers_see l.self l.token l.fn.scope.0 (begins_at_root l.name) (words l.name);
+  same : inside l.self l.token l.seen (map unescaped (words_left l.word-iterator))
+      ≡ identifiers_see l.self l.token l.fn.scope.0 (begins_at_root l.name) (words l.name);
 }

@@ -5,4 +5,5 @@ use Rattle.name_table.proofs.table.Table.next_heir.Goals as goal
 
 pub heir_with-requires-clause-covers : goal.heir_with-requires-clause-covers
 heir_with-requires-clause-covers c =
-    subst (λ ws. (name : List ℕ) → SaysNothingNew c.args.self.now c.args.inner.0 c.args.base name ⊎ HasWord ws name) (sym c.as_slice.ensures.value) c.in_ok-words.ensures
+    subst (λ ws. (name : List ℕ) → SaysNothingNew c.args.self.now c.args.inner.0 c.args.base name ⊎ HasWord ws name)
+    (sym c.as_slice.ensures.value) c.in_ok-words.ensures

@@ -16,7 +16,8 @@ loop-found-preserved c =
     let r = c.index.result.now in
     let count : length es ≡ length records = sym (ap length c.self.view_is) ∙ length-map records entry_of in
     let e = c.in-Some.number in
-    let here : slice_get records e ≡ Some r = slice_get_read records (length records) e r refl (omega (arith, count)) c.index.ensures in
+    let here : slice_get records e ≡ Some r =
+    slice_get_read records (length records) e r refl (omega (arith, count)) c.index.ensures in
     let behind : r.key.scope.0 ≤ e = scope_behind records c.self.invariant.0.nested e r here in
     let is : suc e ≡ place = omega arith in
     let further = within_first es token (outwards es r.key.scope.0 r.key.scope.0) text in

@@ -31,4 +31,5 @@ returns-in_default c =
     c.args.token c.index.result.now (omega (arith, same, here.there)) c.index.ensures c.if-index-token.false
 
 pub returns-then-is_bare : goal.returns-then-is_bare
-returns-then-is_bare c = sym (ap (declared_before c.args.self.now c.args.token) (c.is_bare.ensures c.if-is_bare.true c.args.word.text.now))
+returns-then-is_bare c =
+    sym (ap (declared_before c.args.self.now c.args.token) (c.is_bare.ensures c.if-is_bare.true c.args.word.text.now))

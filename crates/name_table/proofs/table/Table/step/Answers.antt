@@ -23,7 +23,8 @@ returns-in-Nothing c =
       omega arith,
       ap (λ s. inherited es base.token s text) next
           ∙ ap (λ found. or_else found rest) nothing
-          ∙ from_first_base c.self.inside.records.items es c.self.view_is c.self.invariant.0.searched c.args.place.token c.args.place.scope.0 text c.in-Some-heir_of.heir.now
+          ∙ from_first_base c.self.inside.records.items es c.self.view_is c.self.invariant.0.searched c.args.place.token
+          c.args.place.scope.0 text c.in-Some-heir_of.heir.now
           (sym (c.in-Some-heir_of.ensures ∙ ap (λ xs. heir_of xs c.args.place.scope.0) c.as_slice.ensures.value))
           (sym c.in_default-other.ensures)
           (omega arith),

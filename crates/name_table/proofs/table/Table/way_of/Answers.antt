@@ -12,7 +12,8 @@ use Rattle.name_table.proofs.table.Table.way_of.Goals as goal
 pub enter-requires : goal.enter-requires
 enter-requires c =
     let records = c.self.inside.records.items in
-    let count : length c.args.self.now ≡ length records = sym (ap length c.self.view_is) ∙ length-map records entry_of in
+    let count : length c.args.self.now ≡ length records = sym (ap length c.self.view_is)
+    ∙ length-map records entry_of in
     let placed : c.in-Some.heir.now.first.entry < length records =
     first_placed records c.self.invariant.0.placed c.args.scope.0 c.in-Some.heir.now
     (sym (c.in-Some.ensures ∙ ap (λ xs. heir_of xs c.args.scope.0) c.as_slice.ensures.value)) in
@@ -24,9 +25,11 @@ returns-clause-short c =
     let h = c.in-Some.heir.now in
     let scope = c.args.scope.0 in
     let kept : IsKept es scope h = subst (λ xs. IsKept xs scope h) c.self.view_is
-    (kept_of c.self.inside.records.items c.self.invariant.0.searched scope h (sym (c.in-Some.ensures ∙ ap (λ xs. heir_of xs scope) c.as_slice.ensures.value))) in
+    (kept_of c.self.inside.records.items c.self.invariant.0.searched scope h
+    (sym (c.in-Some.ensures ∙ ap (λ xs. heir_of xs scope) c.as_slice.ensures.value))) in
     way_over es scope h c.in_ok-inside.inside c.in_ok-half.half c.in_ok-place.place
-    c.list_given.new.words.items c.enter.new.words.items c.stride.new.words.items c.stride-2.new.words.items _ refl refl kept
+    c.list_given.new.words.items c.enter.new.words.items c.stride.new.words.items c.stride-2.new.words.items _ refl refl
+    kept
     c.in_ok-list_given.ensures.listed c.in_ok-inside.ensures.kept c.in_ok-inside.ensures.leads
     c.in_ok-half.ensures.kept c.in_ok-half.ensures.passes c.in_ok-place.ensures.kept c.in_ok-place.ensures.passes
     (λ name has. c.in_ok-words.ensures name (subst (λ xs. HasWord xs name) (sym c.as_slice-2.ensures.value) has))

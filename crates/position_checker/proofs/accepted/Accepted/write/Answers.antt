@@ -7,9 +7,15 @@ use Rattle.position_checker.proofs.accepted.Accepted.write.Goals as goal
 pub returns-clause-found : goal.returns-clause-found
 returns-clause-found c =
     let right : IsRight c.args.self.now = subst IsRight c.self.view_is c.self.invariant.0 in
-    write_found c.args.self.now right c.args.order c.args.node _ _ c.args.pos c.serving-program.ensures.serves c.program.result.now (c.program.ensures.value ∙ ap (λ (t : TableParts). program_at t c.serving-program.result.program) c.self.view_is) (λ octets. octets.items) c.args.tape.now c.write.result c.write.ensures.found
+    write_found c.args.self.now right c.args.order c.args.node _ _ c.args.pos c.serving-program.ensures.serves
+    c.program.result.now (c.program.ensures.value
+    ∙ ap (λ (t : TableParts). program_at t c.serving-program.result.program) c.self.view_is)
+    (λ octets. octets.items) c.args.tape.now c.write.result c.write.ensures.found
 
 pub returns-clause-refused : goal.returns-clause-refused
 returns-clause-refused c =
     let right : IsRight c.args.self.now = subst IsRight c.self.view_is c.self.invariant.0 in
-    write_refused c.args.self.now right c.args.order c.args.node _ _ c.args.pos c.serving-program.ensures.serves c.program.result.now (c.program.ensures.value ∙ ap (λ (t : TableParts). program_at t c.serving-program.result.program) c.self.view_is) c.args.tape.now c.write.result c.write.ensures.refused
+    write_refused c.args.self.now right c.args.order c.args.node _ _ c.args.pos c.serving-program.ensures.serves
+    c.program.result.now (c.program.ensures.value
+    ∙ ap (λ (t : TableParts). program_at t c.serving-program.result.program) c.self.view_is) c.args.tape.now
+    c.write.result c.write.ensures.refused

@@ -11,9 +11,11 @@ loop-tag-preserved c =
     let added = c.in_ok-push_str.ensures.bytes
     ∙ ap (λ (l : List ℕ). string_bytes c.loop-tag.lines ++ l) c.as_str.ensures.value in
     let here = subst (λ (n : ℕ). IsComponent n (one.0, one.1.items) line) c.loop-tag.invariant.number
-    (subst (λ (o : List ℕ). IsComponent c.loop-tag.number (one.0, o) line) c.as_slice.ensures.value c.in_ok-line.ensures) in
+    (subst (λ (o : List ℕ). IsComponent c.loop-tag.number (one.0, o) line) c.as_slice.ensures.value
+    c.in_ok-line.ensures) in
     record {
       number = ap (λ n. n + 1) c.loop-tag.invariant.number;
       lines = pairs_more IsComponent c.args.components.now c.loop-tag.tag-index one (string_bytes c.loop-tag.lines)
-          (string_bytes c.push_str.new.self) line c.loop-tag-test.true c.loop-tag-item.is c.loop-tag.invariant.lines added here;
+          (string_bytes c.push_str.new.self) line c.loop-tag-test.true c.loop-tag-item.is c.loop-tag.invariant.lines
+          added here;
     }

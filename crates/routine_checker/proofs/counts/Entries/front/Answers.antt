@@ -15,5 +15,7 @@ loop-at-preserved c =
       λ graph right more.
           let wanted = is_piece_of c.args.piece graph in
           c.loop-at.invariant.1 graph right more
-          ∙ front_more graph wanted numbers more at c.args.wanted c.loop-at.taken n 0 c.loop-at-test.true (counted_yields graph wanted wanted (get_or numbers at 0) n refl some (c.of-count.ensures graph right some)) fits,
+          ∙ front_more graph wanted numbers more at c.args.wanted c.loop-at.taken n 0 c.loop-at-test.true
+          (counted_yields graph wanted wanted (get_or numbers at 0) n refl some
+          (c.of-count.ensures graph right some)) fits,
     )

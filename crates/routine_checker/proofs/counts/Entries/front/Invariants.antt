@@ -8,4 +8,5 @@ use Rattle.routine_checker.proofs.counts.Entries.front.Given as goal
 abbrev pub invariant-loop-at : goal.invariant-loop-at
 invariant-loop-at l = (l.taken ≤ l.wanted)
     × ((graph : List Node) → AreEntries graph l.self → (more : List ℕ)
-    → taken l.wanted (is_piece_of l.piece graph) graph (l.numbers ++ more) ≡ taken (l.wanted - l.taken) (is_piece_of l.piece graph) graph (drop l.at l.numbers ++ more))
+    → taken l.wanted (is_piece_of l.piece graph) graph (l.numbers ++ more)
+    ≡ taken (l.wanted - l.taken) (is_piece_of l.piece graph) graph (drop l.at l.numbers ++ more))

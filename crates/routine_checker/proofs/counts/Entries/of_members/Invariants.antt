@@ -6,4 +6,5 @@ use Rattle.routine_checker.proofs.CountLaws.{SumsTo}
 use Rattle.routine_checker.proofs.counts.Entries.of_members.Given as goal
 
 abbrev pub invariant-loop-member : goal.invariant-loop-member
-invariant-loop-member l = (graph : List Node) → AreEntries graph l.self → SumsTo (pieces_in 64 (is_piece_of l.piece graph) graph) l.members l.member-index l.sum
+invariant-loop-member l = (graph : List Node) → AreEntries graph l.self
+    → SumsTo (pieces_in 64 (is_piece_of l.piece graph) graph) l.members l.member-index l.sum

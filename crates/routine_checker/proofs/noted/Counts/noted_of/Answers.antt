@@ -13,4 +13,5 @@ returns-then-is_same c = λ graph right.
     let list = c.deref-2.ensures.value in
     let within = subst (λ (all : List Noted). place < length all) list found.3.0 in
     let is = subst (λ (all : List Noted). noted ≡ get_or all place noted) list found.1 in
-    subst (IsNoted graph piece) (sym c.as_slice.ensures.value) (noted_at graph c.args.self.now place noted piece right within is (c.is_same.ensures c.if-is_same.true))
+    subst (IsNoted graph piece) (sym c.as_slice.ensures.value)
+    (noted_at graph c.args.self.now place noted piece right within is (c.is_same.ensures c.if-is_same.true))

@@ -5,4 +5,5 @@ use Rattle.routine_checker.proofs.work.Work.is_done.Given as goal
 
 abbrev pub invariant-loop-level : goal.invariant-loop-level
 invariant-loop-level l =
-    is_done_within 64 l.nodes (work_of l.initial.self.items.items) ≡ is_done_within (64 - l.level) l.nodes (work_of l.self.items.items)
+    is_done_within 64 l.nodes (work_of l.initial.self.items.items)
+    ≡ is_done_within (64 - l.level) l.nodes (work_of l.self.items.items)

@@ -11,7 +11,8 @@ pub invariant_of-self-2 : goal.invariant_of-self-2
 invariant_of-self-2 c =
     let inside = c.self.inside in
     let fresh = ap (λ xs. member_named xs c.args.scope.0 (word c.args.identifier)) c.self.view_is ∙ c.requires in
-    subst (λ p. AreFound (members_in p ++ member_of c.args.scope.0 c.args.identifier ∷ []) c.keep.new.few.items c.keep.new.many.items) (sym c.of-before.ensures)
+    subst (λ p. AreFound (members_in p ++ member_of c.args.scope.0 c.args.identifier ∷ []) c.keep.new.few.items
+    c.keep.new.many.items) (sym c.of-before.ensures)
     (c.in_ok-keep.ensures.kept (members_in inside.past) c.self.invariant fresh)
 
 pub returns-clause-pushed : goal.returns-clause-pushed

@@ -35,8 +35,11 @@ read_definitions-read_definition-requires t c =
     let lt : k < length ds = omega arith in
     let within = part_length definition_steps ds k d lt c.definition-item.is in
     let low = c.decreases in
-    let rises = subst (Rises (latest c.loop-definition.self.entries)) (definitions_at ds k d lt c.definition-item.is) c.loop-definition.invariant.rises in
-    (omega (arith, within, low), (Rises-split (latest c.loop-definition.self.entries) (definition_steps d) (steps_of (drop (k + 1) ds)) rises).0)
+    let rises = subst (Rises (latest c.loop-definition.self.entries)) (definitions_at ds k d lt c.definition-item.is)
+    c.loop-definition.invariant.rises in (
+      omega (arith, within, low),
+      (Rises-split (latest c.loop-definition.self.entries) (definition_steps d) (steps_of (drop (k + 1) ds)) rises).0,
+    )
 
 pub read_definitions-returns-in_err-read_definition : goal.read_definitions-returns-in_err-read_definition
 read_definitions-returns-in_err-read_definition t c =
@@ -63,7 +66,8 @@ read_definitions-loop-definition-preserved t c =
     let is = c.in_ok-read_definition.ensures in
     let rises = subst (Rises (latest st.entries)) here c.loop-definition.invariant.rises in
     record {
-      told = sym (steps_joined st next (definition_steps d) rest is) ∙ sym (ap (steps_read st) here) ∙ c.loop-definition.invariant.told;
+      told = sym (steps_joined st next (definition_steps d) rest is) ∙ sym (ap (steps_read st) here)
+          ∙ c.loop-definition.invariant.told;
       rises = rises_behind st next (definition_steps d) rest is rises;
     }
 
@@ -76,7 +80,8 @@ read_module-read_definitions-requires t c =
     let same = ap (λ xs. length (steps_of xs)) c.as_slice.ensures.value in
     let low = c.decreases in
     let front = Declares Kinds.Module id ∷ [] in
-    let begun = rises_behind st opened front (Enters id ∷ steps_of ds ++ Leaves ∷ []) (ap (λ r. r >> λ s. steps_read s []) c.in_ok-declare.ensures.told) c.requires in
+    let begun = rises_behind st opened front (Enters id ∷ steps_of ds ++ Leaves ∷ [])
+    (ap (λ r. r >> λ s. steps_read s []) c.in_ok-declare.ensures.told) c.requires in
     let inner = (Rises-split (latest opened.entries) (steps_of ds) (Leaves ∷ []) begun.1).0 in (
       omega (arith, same, low),
       subst (λ xs. Rises (latest c.enter.new.self.entries) (steps_of xs)) (sym c.as_slice.ensures.value)
@@ -85,20 +90,25 @@ read_module-read_definitions-requires t c =
 
 pub read_module-returns-in_err-read_definitions : goal.read_module-returns-in_err-read_definitions
 read_module-returns-in_err-read_definitions t c =
-    let p = err_from_is_err_and c.from_residual-in_err-read_definitions.result c.from_residual-in_err-read_definitions.ensures.1 in
+    let p = err_from_is_err_and c.from_residual-in_err-read_definitions.result
+    c.from_residual-in_err-read_definitions.ensures.1 in
     let ds = c.args.m.now.definitions.items in
     let id = c.args.m.now.identifier in
     let more = Enters id ∷ steps_of ds ++ Leaves ∷ [] in
     rw (p.1, p.2) (or_told c.in_err-read_definitions.ensures
-    (λ is. ap (λ r. r >> λ s. steps_read s more) c.in_ok-declare.ensures.told ∙ ap (λ s. steps_read s (steps_of ds ++ Leaves ∷ [])) (sym c.enter.ensures)
-    ∙ steps_stopped c.enter.new.self _ (steps_of ds) (Leaves ∷ []) (sym (ap (λ xs. steps_read c.enter.new.self (steps_of xs)) c.as_slice.ensures.value) ∙ is)))
+    (λ is. ap (λ r. r >> λ s. steps_read s more) c.in_ok-declare.ensures.told
+    ∙ ap (λ s. steps_read s (steps_of ds ++ Leaves ∷ [])) (sym c.enter.ensures)
+    ∙ steps_stopped c.enter.new.self _ (steps_of ds) (Leaves ∷ [])
+    (sym (ap (λ xs. steps_read c.enter.new.self (steps_of xs)) c.as_slice.ensures.value) ∙ is)))
 
 pub read_module-returns : goal.read_module-returns
 read_module-returns t c =
     let ds = c.args.m.now.definitions.items in
     let id = c.args.m.now.identifier in
     let more = Enters id ∷ steps_of ds ++ Leaves ∷ [] in
-    let read = sym (ap (λ xs. steps_read c.enter.new.self (steps_of xs)) c.as_slice.ensures.value) ∙ c.in_ok-read_definitions.ensures in
-    ap (λ r. r >> λ s. steps_read s more) c.in_ok-declare.ensures.told ∙ ap (λ s. steps_read s (steps_of ds ++ Leaves ∷ [])) (sym c.enter.ensures)
+    let read = sym (ap (λ xs. steps_read c.enter.new.self (steps_of xs)) c.as_slice.ensures.value)
+    ∙ c.in_ok-read_definitions.ensures in
+    ap (λ r. r >> λ s. steps_read s more) c.in_ok-declare.ensures.told
+    ∙ ap (λ s. steps_read s (steps_of ds ++ Leaves ∷ [])) (sym c.enter.ensures)
     ∙ steps_joined c.enter.new.self c.read_definitions.new.self (steps_of ds) (Leaves ∷ []) read
     ∙ ap Ok (sym c.leave.ensures)

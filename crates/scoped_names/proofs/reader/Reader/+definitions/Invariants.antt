@@ -7,7 +7,8 @@ use Rattle.scoped_names.proofs.reader.Reader.+definitions.Given as goal
 
 abbrev pub invariant-read_definitions-loop-definition : goal.invariant-read_definitions-loop-definition
 invariant-read_definitions-loop-definition l = record {
-  told : steps_read l.self (steps_of (drop l.definition-index l.definitions)) ≡ steps_read l.fn.self (steps_of l.definitions);
+  told : steps_read l.self (steps_of (drop l.definition-index l.definitions))
+      ≡ steps_read l.fn.self (steps_of l.definitions);
   rises : Rises (latest l.self.entries) (steps_of (drop l.definition-index l.definitions));
 }
 

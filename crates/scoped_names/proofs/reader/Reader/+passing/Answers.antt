@@ -23,7 +23,9 @@ pass_definition-pass_module-requires t c =
 pub pass_definition-returns-in-Module-clause-passed : goal.pass_definition-returns-in-Module-clause-passed
 pass_definition-returns-in-Module-clause-passed t c =
     let is = ap definition_steps c.in-Module.is ∙ module_listed c.in-Module.m in
-    subst (λ steps. IfOk c.pass_module.result (λ done. Passes c.args.self.now c.args.faults.now steps c.pass_module.new.self c.pass_module.new.faults)) (sym is) c.pass_module.ensures.passed
+    subst (λ steps. IfOk c.pass_module.result
+    (λ done. Passes c.args.self.now c.args.faults.now steps c.pass_module.new.self c.pass_module.new.faults))
+    (sym is) c.pass_module.ensures.passed
 
 pub pass_definitions-pass_definition-requires : goal.pass_definitions-pass_definition-requires
 pass_definitions-pass_definition-requires t c =
@@ -33,8 +35,11 @@ pass_definitions-pass_definition-requires t c =
     let lt : k < length ds = omega arith in
     let within = part_length definition_steps ds k d lt c.definition-item.is in
     let low = c.decreases in
-    let rises = subst (Rises (latest c.loop-definition.self.entries)) (definitions_at ds k d lt c.definition-item.is) c.loop-definition.invariant.rises in
-    (omega (arith, within, low), (Rises-split (latest c.loop-definition.self.entries) (definition_steps d) (steps_of (drop (k + 1) ds)) rises).0)
+    let rises = subst (Rises (latest c.loop-definition.self.entries)) (definitions_at ds k d lt c.definition-item.is)
+    c.loop-definition.invariant.rises in (
+      omega (arith, within, low),
+      (Rises-split (latest c.loop-definition.self.entries) (definition_steps d) (steps_of (drop (k + 1) ds)) rises).0,
+    )
 
 pub pass_definitions-loop-definition-preserved : goal.pass_definitions-loop-definition-preserved
 pass_definitions-loop-definition-preserved t c =
@@ -49,8 +54,11 @@ pass_definitions-loop-definition-preserved t c =
     let passes = c.in_ok-pass_definition.ensures.passed in
     let rises = subst (Rises (latest st.entries)) here c.loop-definition.invariant.rises in
     record {
-      passed = continues_on c.args.self.now st next c.args.faults.now c.loop-definition.faults c.pass_definition.new.faults (steps_of ds) (definition_steps d) rest (steps_of (drop k ds)) c.loop-definition.invariant.passed here passes;
-      rises = rises_passed st next c.loop-definition.faults c.pass_definition.new.faults (definition_steps d) rest passes rises;
+      passed = continues_on c.args.self.now st next c.args.faults.now c.loop-definition.faults
+          c.pass_definition.new.faults (steps_of ds) (definition_steps d) rest (steps_of (drop k ds))
+          c.loop-definition.invariant.passed here passes;
+      rises = rises_passed st next c.loop-definition.faults c.pass_definition.new.faults (definition_steps d) rest
+          passes rises;
       most = c.in_ok-pass_definition.ensures.most ∙ c.loop-definition.invariant.most;
     }
 
@@ -62,7 +70,8 @@ pass_module-pass_definitions-requires t c =
     let opened = c.pass_step.new.self in
     let same = ap (λ xs. length (steps_of xs)) c.as_slice.ensures.value in
     let low = c.decreases in
-    let begun = rises_passed st opened c.args.faults.now c.pass_step.new.faults (Declares Kinds.Module id ∷ []) (Enters id ∷ steps_of ds ++ Leaves ∷ []) c.in_ok-pass_step.ensures.passed c.requires in
+    let begun = rises_passed st opened c.args.faults.now c.pass_step.new.faults (Declares Kinds.Module id ∷ [])
+    (Enters id ∷ steps_of ds ++ Leaves ∷ []) c.in_ok-pass_step.ensures.passed c.requires in
     let inner = (Rises-split (latest opened.entries) (steps_of ds) (Leaves ∷ []) begun.1).0 in (
       omega (arith, same, low),
       subst (λ xs. Rises (latest c.enter.new.self.entries) (steps_of xs)) (sym c.as_slice.ensures.value)
@@ -81,15 +90,20 @@ pass_module-returns-clause-passed t c =
     let f = c.args.faults.now in
     let g = c.pass_step.new.faults in
     let h = c.pass_definitions.new.faults in
-    let inside : Passes entered g (steps_of ds) read h = subst (λ xs. Passes entered g (steps_of xs) read h) c.as_slice.ensures.value c.in_ok-pass_definitions.ensures.passed in
+    let inside : Passes entered g (steps_of ds) read h =
+    subst (λ xs. Passes entered g (steps_of xs) read h) c.as_slice.ensures.value
+    c.in_ok-pass_definitions.ensures.passed in
     let enters = step_on opened entered g (Enters id) (ap Ok (sym c.enter.ensures)) in
     let leaves = step_on read left h Leaves (ap Ok (sym c.leave.ensures)) in
     let behind = passes_joined entered read left g h h (steps_of ds) (Leaves ∷ []) inside leaves in
     let within = passes_joined opened entered left g g h (Enters id ∷ []) (steps_of ds ++ Leaves ∷ []) enters behind in
-    passes_joined st opened left f g h (Declares Kinds.Module id ∷ []) (Enters id ∷ steps_of ds ++ Leaves ∷ []) c.in_ok-pass_step.ensures.passed within
+    passes_joined st opened left f g h (Declares Kinds.Module id ∷ []) (Enters id ∷ steps_of ds ++ Leaves ∷ [])
+    c.in_ok-pass_step.ensures.passed within
 
 pub pass_definitions-returns-clause-passed : goal.pass_definitions-returns-clause-passed
 pass_definitions-returns-clause-passed t c =
     let ds = c.args.definitions.now in
     let k = c.loop-definition.definition-index in
-    continues_done c.args.self.now c.loop-definition.self c.args.faults.now c.loop-definition.faults (steps_of ds) (steps_of (drop k ds)) c.loop-definition.invariant.passed (ap steps_of (drop_all k ds c.loop-definition-test.false))
+    continues_done c.args.self.now c.loop-definition.self c.args.faults.now c.loop-definition.faults (steps_of ds)
+    (steps_of (drop k ds)) c.loop-definition.invariant.passed
+    (ap steps_of (drop_all k ds c.loop-definition-test.false))

@@ -7,7 +7,8 @@ use Rattle.scoped_names.proofs.reader.Reader.+passing.Given as goal
 
 abbrev pub invariant-pass_definitions-loop-definition : goal.invariant-pass_definitions-loop-definition
 invariant-pass_definitions-loop-definition l = record {
-  passed : Continues l.fn.self l.fn.faults (steps_of l.definitions) l.self l.faults (steps_of (drop l.definition-index l.definitions));
+  passed : Continues l.fn.self l.fn.faults (steps_of l.definitions) l.self l.faults
+      (steps_of (drop l.definition-index l.definitions));
   rises : Rises (latest l.self.entries) (steps_of (drop l.definition-index l.definitions));
   most : l.faults.most ≡ l.fn.faults.most;
 }

@@ -14,7 +14,8 @@ read_step-requires c =
     let k = c.loop-step.step-index in
     let x = c.step-item.result in
     let lt : k < length xs = omega arith in
-    (subst (Rises (latest c.loop-step.self.entries)) (steps_at step_of xs k x lt c.step-item.is) c.loop-step.invariant.rises).0
+    (subst (Rises (latest c.loop-step.self.entries)) (steps_at step_of xs k x lt c.step-item.is)
+    c.loop-step.invariant.rises).0
 
 pub returns-in_err-read_step : goal.returns-in_err-read_step
 returns-in_err-read_step c =
@@ -23,7 +24,8 @@ returns-in_err-read_step c =
     let k = c.loop-step.step-index in
     let lt : k < length xs = omega arith in
     rw (p.1, p.2) (or_told c.in_err-read_step.ensures.told
-    (λ is. sym c.loop-step.invariant.told ∙ steps_off step_of c.loop-step.self xs k c.step-item.result _ lt c.step-item.is is))
+    (λ is. sym c.loop-step.invariant.told
+    ∙ steps_off step_of c.loop-step.self xs k c.step-item.result _ lt c.step-item.is is))
 
 pub loop-step-preserved : goal.loop-step-preserved
 loop-step-preserved c =
@@ -34,8 +36,10 @@ loop-step-preserved c =
     let next = c.read_step.new.self in
     let lt : k < length xs = omega arith in
     let is = c.in_ok-read_step.ensures.told in
-    let rises = subst (Rises (latest st.entries)) (steps_at step_of xs k x lt c.step-item.is) c.loop-step.invariant.rises in
+    let rises = subst (Rises (latest st.entries)) (steps_at step_of xs k x lt c.step-item.is)
+    c.loop-step.invariant.rises in
     record {
       told = steps_on step_of st next xs k x lt c.step-item.is is ∙ c.loop-step.invariant.told;
-      rises = Rises-mono (latest next.entries) (reached (latest st.entries) (step_of x)) (map step_of (drop (k + 1) xs)) (step_low st next (step_of x) is rises.0) rises.1;
+      rises = Rises-mono (latest next.entries) (reached (latest st.entries) (step_of x)) (map step_of (drop (k + 1) xs))
+          (step_low st next (step_of x) is rises.0) rises.1;
     }

@@ -23,12 +23,14 @@ read_definitions-requires c =
 pub returns-in_err-read_definitions : goal.returns-in_err-read_definitions
 returns-in_err-read_definitions c =
     let p = err_from_is_err_and c.from_residual.result c.from_residual.ensures.1 in
-    let begun = ap (λ st. steps_read st (steps_of c.as_slice.result.now)) c.requires ∙ ap (λ ds. steps_read nothing_yet (steps_of ds)) c.as_slice.ensures.value in
+    let begun = ap (λ st. steps_read st (steps_of c.as_slice.result.now)) c.requires
+    ∙ ap (λ ds. steps_read nothing_yet (steps_of ds)) c.as_slice.ensures.value in
     rw (p.1, p.2) (or_told c.in_err-read_definitions.ensures (λ is. ap finished (sym begun ∙ is)))
 
 pub returns : goal.returns
 returns c =
     let st = c.read_definitions.new.self in
-    let begun = ap (λ st. steps_read st (steps_of c.as_slice.result.now)) c.requires ∙ ap (λ ds. steps_read nothing_yet (steps_of ds)) c.as_slice.ensures.value in
+    let begun = ap (λ st. steps_read st (steps_of c.as_slice.result.now)) c.requires
+    ∙ ap (λ ds. steps_read nothing_yet (steps_of ds)) c.as_slice.ensures.value in
     subst (Tells c.all_defined.result st) (sym (ap finished (sym begun ∙ c.in_ok-read_definitions.ensures)))
     (checked_then c.all_defined.result (never_defined (left_open st 0 st.entries)) st c.all_defined.ensures)

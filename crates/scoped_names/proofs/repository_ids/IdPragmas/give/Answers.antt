@@ -17,10 +17,13 @@ returns-in-Some c =
     let ids = c.self.inside.ids.items in
     let x = c.index.result.now in
     let es = c.self.inside.entries in
-    let low : c.in-Some.number < length es = subst (λ o. IfSome o (λ n. n < length es)) c.in-Some.is c.number_of.ensures.there in
+    let low : c.in-Some.number < length es =
+    subst (λ o. IfSome o (λ n. n < length es)) c.in-Some.is c.number_of.ensures.there in
     let even = c.self.invariant in
-    let here : slice_get ids c.in-Some.number ≡ Some x = slice_get_read ids (length ids) c.in-Some.number x refl (omega arith) c.index.ensures in
-    let there = given_there ps es ids c.self.view_is even c.args.entry c.in-Some.number x (sym c.number_of.ensures.is ∙ c.in-Some.is) here in
+    let here : slice_get ids c.in-Some.number ≡ Some x =
+    slice_get_read ids (length ids) c.in-Some.number x refl (omega arith) c.index.ensures in
+    let there = given_there ps es ids c.self.view_is even c.args.entry c.in-Some.number x
+    (sym c.number_of.ensures.is ∙ c.in-Some.is) here in
     record {
       told = subst (λ o. Tells c.given_again.result ps (given_once ps c.args.entry g c.args.at o)) (sym there)
           (checked_then c.given_again.result (again_test (given_of x.id) x.at g c.args.at) ps c.given_again.ensures);
@@ -41,6 +44,7 @@ returns-in_ok-push-in-None-clause-told c =
     let none = given_none ps es ids c.self.view_is c.self.invariant e (sym c.number_of.ensures.is ∙ c.in-None.is) in
     let behind : ps ++ pragma_of e first ∷ [] ≡ pragmas_of c.push.new.self c.push_reserved.new.self.items =
     sym (ap (λ xs. pragmas_of xs c.push_reserved.new.self.items) c.in_ok-push-in-None.ensures.pushed
-    ∙ ap (pragmas_of (es ++ e ∷ [])) (c.push_reserved.ensures.items ∙ ap (λ xs. xs ++ first ∷ []) c.in_ok-reserve-in-None.ensures.items)
+    ∙ ap (pragmas_of (es ++ e ∷ [])) (c.push_reserved.ensures.items
+    ∙ ap (λ xs. xs ++ first ∷ []) c.in_ok-reserve-in-None.ensures.items)
     ∙ pragmas_push es ids e first c.self.invariant ∙ ap (λ qs. qs ++ pragma_of e first ∷ []) c.self.view_is) in
     ap (given_once ps e g c.args.at) none ∙ ap (λ qs. let r : Result (List IdPragma) NameFault = Ok qs in r) behind

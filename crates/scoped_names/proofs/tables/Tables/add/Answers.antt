@@ -35,5 +35,6 @@ add-requires-clause-late c =
     let whole = ap latest c.self.view_is in
     let low = c.requires.late in
     let token = ap (λ m. m.token) c.as_feature-feature.ensures in
-    let late = late_either (is_feature m.kind) (latest table) m.token no_token (omega (arith, whole, low)) (omega (arith, whole, low)) in
+    let late = late_either (is_feature m.kind) (latest table) m.token no_token (omega (arith, whole, low))
+    (omega (arith, whole, low)) in
     omega (arith, same, token, late)

@@ -24,7 +24,8 @@ pub add_base-requires-clause-late : goal.add_base-requires-clause-late
 add_base-requires-clause-late c =
     let table = c.self.inside.all in
     let kept = c.in_ok-keep_apart.ensures.kept in
-    let same : latest c.shorten.new.self ≡ latest table = ap latest (c.shorten.ensures ∙ kept) ∙ latest_features table in
+    let same : latest c.shorten.new.self ≡ latest table = ap latest (c.shorten.ensures ∙ kept)
+    ∙ latest_features table in
     let whole = ap latest c.self.view_is in
     let late = c.requires.late in
     omega (arith, same, whole, late)

@@ -18,7 +18,8 @@ pub differ-requires-clause-late : goal.differ-requires-clause-late
 differ-requires-clause-late c =
     let inside = c.self.inside in
     let kept = are_apart inside.all inside.are_apart inside.features c.if-not-self.false c.self.invariant in
-    let same : latest c.self.inside.features ≡ latest c.self.inside.all = ap latest kept ∙ latest_features c.self.inside.all in
+    let same : latest c.self.inside.features ≡ latest c.self.inside.all =
+    ap latest kept ∙ latest_features c.self.inside.all in
     let whole = ap latest c.self.view_is in
     let late = c.requires.late in
     omega (arith, same, whole, late)
@@ -26,5 +27,6 @@ differ-requires-clause-late c =
 pub returns-then-not-self : goal.returns-then-not-self
 returns-then-not-self c =
     let inside = c.self.inside in
-    let bare = subst HaveNoBases c.self.view_is (are_bare inside.all inside.are_apart inside.features c.if-not-self.true c.self.invariant) in
+    let bare = subst HaveNoBases c.self.view_is
+    (are_bare inside.all inside.are_apart inside.features c.if-not-self.true c.self.invariant) in
     features_differ_none c.args.self.now bare c.args.inner.0 c.args.base

@@ -8,7 +8,8 @@ use Rattle.scoped_names.proofs.tables.Tables.inherited.Goals as goal
 pub returns-then-not-self : goal.returns-then-not-self
 returns-then-not-self c =
     let inside = c.self.inside in
-    let bare = subst HaveNoBases c.self.view_is (are_bare inside.all inside.are_apart inside.features c.if-not-self.true c.self.invariant) in
+    let bare = subst HaveNoBases c.self.view_is
+    (are_bare inside.all inside.are_apart inside.features c.if-not-self.true c.self.invariant) in
     sym (features_inherit_none c.args.self.now bare c.args.token c.args.scope.0 c.args.word.text.now)
 
 pub returns : goal.returns

@@ -6,7 +6,8 @@ use Rattle.table_file.proofs.PassLaws.{kind_passes, kinds_stop}
 use Rattle.table_file.proofs.instrs.DiscPart.pass.Goals as goal
 
 pub returns-in-Some-eq2 : goal.returns-in-Some-eq2
-returns-in-Some-eq2 c = kind_passes is_word (λ n. n < 4) _ _ _ _ _ (omega (arith, c.in-Some-eq2.field-0-test)) c.in-Some-eq2.ensures c.pass.ensures
+returns-in-Some-eq2 c = kind_passes is_word (λ n. n < 4) _ _ _ _ _ (omega (arith, c.in-Some-eq2.field-0-test))
+    c.in-Some-eq2.ensures c.pass.ensures
 
 pub returns-in-Some : goal.returns-in-Some
 returns-in-Some c =

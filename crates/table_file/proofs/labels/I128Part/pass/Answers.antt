@@ -6,4 +6,5 @@ use Rattle.table_file.proofs.labels.I128Part.pass.Goals as goal
 
 pub returns : goal.returns
 returns c =
-    octets_pass spelled_label 16 label_of_octets label_long _ _ _ c.skip.ensures.octets c.skip.ensures.there c.skip.ensures.behind
+    octets_pass spelled_label 16 label_of_octets label_long _ _ _ c.skip.ensures.octets c.skip.ensures.there
+    c.skip.ensures.behind

@@ -9,4 +9,5 @@ returns-in_err-count g c =
 
 pub returns : goal.returns
 returns g c =
-    list_reads g.T.Part.spelled c.in_ok-count.count c.read_run.result _ _ _ c.in_ok-count.ensures.counted c.read_run.ensures
+    list_reads g.T.Part.spelled c.in_ok-count.count c.read_run.result _ _ _ c.in_ok-count.ensures.counted
+    c.read_run.ensures

@@ -7,7 +7,8 @@ use Rattle.table_file.proofs.nodes.NodePart.pass.Goals as goal
 
 pub returns-in-Some-eq0 : goal.returns-in-Some-eq0
 returns-in-Some-eq0 c =
-    kind_passes is_whole (λ n. n < 11) _ _ _ _ _ (omega (arith, c.in-Some-eq0.field-0-test)) c.in-Some-eq0.ensures c.pass.ensures
+    kind_passes is_whole (λ n. n < 11) _ _ _ _ _ (omega (arith, c.in-Some-eq0.field-0-test)) c.in-Some-eq0.ensures
+    c.pass.ensures
 
 pub returns-in-Some-eq1 : goal.returns-in-Some-eq1
 returns-in-Some-eq1 c =
@@ -23,27 +24,33 @@ returns-in-Some-eq3 c =
 
 pub returns-in-Some-eq4 : goal.returns-in-Some-eq4
 returns-in-Some-eq4 c =
-    kind_passes is_enum (λ n. n < 11) _ _ _ _ _ (omega (arith, c.in-Some-eq4.field-0-test)) c.in-Some-eq4.ensures c.pass-in-Some-eq4.ensures
+    kind_passes is_enum (λ n. n < 11) _ _ _ _ _ (omega (arith, c.in-Some-eq4.field-0-test)) c.in-Some-eq4.ensures
+    c.pass-in-Some-eq4.ensures
 
 pub returns-in-Some-eq5 : goal.returns-in-Some-eq5
 returns-in-Some-eq5 c =
-    kind_passes is_text (λ n. n < 11) _ _ _ _ _ (omega (arith, c.in-Some-eq5.field-0-test)) c.in-Some-eq5.ensures c.pass-in-Some-eq5.ensures
+    kind_passes is_text (λ n. n < 11) _ _ _ _ _ (omega (arith, c.in-Some-eq5.field-0-test)) c.in-Some-eq5.ensures
+    c.pass-in-Some-eq5.ensures
 
 pub returns-in-Some-eq6 : goal.returns-in-Some-eq6
 returns-in-Some-eq6 c =
-    kind_passes is_seq (λ n. n < 11) _ _ _ _ _ (omega (arith, c.in-Some-eq6.field-0-test)) c.in-Some-eq6.ensures c.pass-in-Some-eq6.ensures
+    kind_passes is_seq (λ n. n < 11) _ _ _ _ _ (omega (arith, c.in-Some-eq6.field-0-test)) c.in-Some-eq6.ensures
+    c.pass-in-Some-eq6.ensures
 
 pub returns-in-Some-eq7 : goal.returns-in-Some-eq7
 returns-in-Some-eq7 c =
-    kind_passes is_array (λ n. n < 11) _ _ _ _ _ (omega (arith, c.in-Some-eq7.field-0-test)) c.in-Some-eq7.ensures c.pass-in-Some-eq7.ensures
+    kind_passes is_array (λ n. n < 11) _ _ _ _ _ (omega (arith, c.in-Some-eq7.field-0-test)) c.in-Some-eq7.ensures
+    c.pass-in-Some-eq7.ensures
 
 pub returns-in-Some-eq8 : goal.returns-in-Some-eq8
 returns-in-Some-eq8 c =
-    kind_passes is_struct (λ n. n < 11) _ _ _ _ _ (omega (arith, c.in-Some-eq8.field-0-test)) c.in-Some-eq8.ensures c.pass-in-Some-eq8.ensures
+    kind_passes is_struct (λ n. n < 11) _ _ _ _ _ (omega (arith, c.in-Some-eq8.field-0-test)) c.in-Some-eq8.ensures
+    c.pass-in-Some-eq8.ensures
 
 pub returns-in-Some-eq9 : goal.returns-in-Some-eq9
 returns-in-Some-eq9 c =
-    kind_passes is_union (λ n. n < 11) _ _ _ _ _ (omega (arith, c.in-Some-eq9.field-0-test)) c.in-Some-eq9.ensures c.pass-in-Some-eq9.ensures
+    kind_passes is_union (λ n. n < 11) _ _ _ _ _ (omega (arith, c.in-Some-eq9.field-0-test)) c.in-Some-eq9.ensures
+    c.pass-in-Some-eq9.ensures
 
 pub returns-in-Some : goal.returns-in-Some
 returns-in-Some c =

@@ -8,7 +8,8 @@ use Rattle.table_file.proofs.nodes.NodePart.skim.Goals as goal
 pub returns-in-Ok : goal.returns-in-Ok
 returns-in-Ok c =
     let count = c.member_count.ensures in
-    skims_by spelled_node (IsAtMost members_in) (Ok c.in-Ok.node) (Ok c.member_count.result) _ _ c.in-Ok.ensures (omega (arith, count))
+    skims_by spelled_node (IsAtMost members_in) (Ok c.in-Ok.node) (Ok c.member_count.result) _ _ c.in-Ok.ensures
+    (omega (arith, count))
 
 pub returns-in-Err : goal.returns-in-Err
 returns-in-Err c = skim_fails spelled_node (IsAtMost members_in) c.in-Err.fault _ _ c.in-Err.ensures

@@ -8,4 +8,5 @@ use Rattle.table_file.proofs.numbers.BoolPart.pass.Goals as goal
 
 pub returns : goal.returns
 returns c =
-    one_some spelled_flag (λ n. Contains (0 ∷ 1 ∷ []) n) flag_code one_flag flag_each flag_only _ _ _ _ c.is_some.ensures c.one_of.ensures
+    one_some spelled_flag (λ n. Contains (0 ∷ 1 ∷ []) n) flag_code one_flag flag_each flag_only _ _ _ _
+    c.is_some.ensures c.one_of.ensures

@@ -6,4 +6,5 @@ use Rattle.table_file.proofs.numbers.U32Part.pass.Goals as goal
 
 pub returns : goal.returns
 returns c =
-    octets_pass spelled_word 4 word_of_octets word_long _ _ _ c.skip.ensures.octets c.skip.ensures.there c.skip.ensures.behind
+    octets_pass spelled_word 4 word_of_octets word_long _ _ _ c.skip.ensures.octets c.skip.ensures.there
+    c.skip.ensures.behind

@@ -5,4 +5,5 @@ use Rattle.table_file.proofs.numbers.U8Part.pass.Goals as goal
 
 pub returns : goal.returns
 returns c =
-    octets_pass spelled_octet 1 octet_of_octets octet_long _ _ _ c.skip.ensures.octets c.skip.ensures.there c.skip.ensures.behind
+    octets_pass spelled_octet 1 octet_of_octets octet_long _ _ _ c.skip.ensures.octets c.skip.ensures.there
+    c.skip.ensures.behind

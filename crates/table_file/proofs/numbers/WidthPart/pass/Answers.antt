@@ -8,4 +8,5 @@ use Rattle.table_file.proofs.numbers.WidthPart.pass.Goals as goal
 
 pub returns : goal.returns
 returns c =
-    one_some spelled_width (λ n. Contains (1 ∷ 2 ∷ 4 ∷ 8 ∷ []) n) width_code one_width width_each width_only _ _ _ _ c.is_some.ensures c.one_of.ensures
+    one_some spelled_width (λ n. Contains (1 ∷ 2 ∷ 4 ∷ 8 ∷ []) n) width_code one_width width_each width_only _ _ _ _
+    c.is_some.ensures c.one_of.ensures

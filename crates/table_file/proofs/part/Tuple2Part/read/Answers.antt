@@ -11,8 +11,10 @@ returns-in_err-first g c =
 pub returns-in_err-second : goal.returns-in_err-second
 returns-in_err-second g c =
     let p = err_from_is_err_and c.from_residual-in_err-second.result c.from_residual-in_err-second.ensures.1 in
-    rw (p.1, p.2) (then_reads g.A.Part.spelled g.B.Part.spelled g.met.A.Part.is_code c.in_ok-first.first (Err c.in_err-second.field-0.0) _ _ _ c.in_ok-first.ensures c.in_err-second.ensures)
+    rw (p.1, p.2) (then_reads g.A.Part.spelled g.B.Part.spelled g.met.A.Part.is_code c.in_ok-first.first
+    (Err c.in_err-second.field-0.0) _ _ _ c.in_ok-first.ensures c.in_err-second.ensures)
 
 pub returns : goal.returns
 returns g c =
-    then_reads g.A.Part.spelled g.B.Part.spelled g.met.A.Part.is_code c.in_ok-first.first (Ok c.in_ok-second.second) _ _ _ c.in_ok-first.ensures c.in_ok-second.ensures
+    then_reads g.A.Part.spelled g.B.Part.spelled g.met.A.Part.is_code c.in_ok-first.first (Ok c.in_ok-second.second) _ _
+    _ c.in_ok-first.ensures c.in_ok-second.ensures

@@ -5,4 +5,5 @@ use Rattle.table_file.proofs.routines.ArrayU88Part.pass.Goals as goal
 
 pub returns : goal.returns
 returns c =
-    octets_pass (spelled_run 8 spelled_octet) 8 sets_of_octets sets_long _ _ _ c.skip.ensures.octets c.skip.ensures.there c.skip.ensures.behind
+    octets_pass (spelled_run 8 spelled_octet) 8 sets_of_octets sets_long _ _ _ c.skip.ensures.octets
+    c.skip.ensures.there c.skip.ensures.behind

@@ -12,4 +12,5 @@ returns-in_err-sets c =
 
 pub returns : goal.returns
 returns c =
-    taken_reads (spelled_run 8 spelled_octet) c.sets_of.result 8 c.in_ok-sets.sets.now _ _ c.sets_of.ensures c.in_ok-sets.ensures.taken
+    taken_reads (spelled_run 8 spelled_octet) c.sets_of.result 8 c.in_ok-sets.sets.now _ _ c.sets_of.ensures
+    c.in_ok-sets.ensures.taken

@@ -11,5 +11,12 @@ returns-in_err-node c =
 
 pub returns : goal.returns
 returns c =
-    let x : Routine = record { node = c.in_ok-node.node; entry = c.in_ok-node.entry; exits = c.in_ok-node.exits; rank = c.in_ok-node.rank; code = c.in_ok-node.code } in
+    let x : Routine = record {
+      node = c.in_ok-node.node;
+      entry = c.in_ok-node.entry;
+      exits = c.in_ok-node.exits;
+      rank =
+          c.in_ok-node.rank;
+      code = c.in_ok-node.code;
+    } in
     via_reads spelled_routine_fields routine_fields x _ _ c.in_ok-node.ensures

@@ -14,4 +14,5 @@ fields_weight = weight_both no_weight (weight_both no_weight (weight_both no_wei
 pub returns : goal.returns
 unfolding routine_of fields_weight
 returns c =
-    via_skims spelled_routine_fields routine_fields routine_of (λ b. refl) (IsAtMost fields_weight) (IsAtMost instrs_in) (λ n b fits. omega (arith, fits)) c.skim.result _ _ c.skim.ensures
+    via_skims spelled_routine_fields routine_fields routine_of (λ b. refl) (IsAtMost fields_weight) (IsAtMost instrs_in)
+    (λ n b fits. omega (arith, fits)) c.skim.result _ _ c.skim.ensures

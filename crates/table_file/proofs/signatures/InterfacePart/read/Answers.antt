@@ -11,5 +11,11 @@ returns-in_err-name c =
 
 pub returns : goal.returns
 returns c =
-    let x : Interface = record { name = c.in_ok-name.name; id = c.in_ok-name.id; bases = c.in_ok-name.bases; operations = c.in_ok-name.operations } in
+    let x : Interface = record {
+      name = c.in_ok-name.name;
+      id = c.in_ok-name.id;
+      bases =
+          c.in_ok-name.bases;
+      operations = c.in_ok-name.operations;
+    } in
     via_reads spelled_interface_fields interface_fields x _ _ c.in_ok-name.ensures

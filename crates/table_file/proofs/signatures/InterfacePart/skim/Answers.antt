@@ -19,10 +19,12 @@ pub returns-in-Ok : goal.returns-in-Ok
 unfolding interface_of
 returns-in-Ok c =
     skims_so spelled_interface Told (IsAtMost no_weight) c.in-Ok.field-0 0 _ _ (λ x told. omega arith)
-    (via_skims spelled_interface_fields interface_fields interface_of (λ b. refl) (IsAtMost fields_weight) Told (λ n b fits. tt) (Ok c.in-Ok.field-0) _ _ c.in-Ok.ensures)
+    (via_skims spelled_interface_fields interface_fields interface_of (λ b. refl) (IsAtMost fields_weight) Told
+    (λ n b fits. tt) (Ok c.in-Ok.field-0) _ _ c.in-Ok.ensures)
 
 pub returns-in-Err : goal.returns-in-Err
 unfolding interface_of
 returns-in-Err c =
     fails_so spelled_interface Told (IsAtMost no_weight) c.in-Err.fault _ _
-    (via_skims spelled_interface_fields interface_fields interface_of (λ b. refl) (IsAtMost fields_weight) Told (λ n b fits. tt) _ _ _ c.in-Err.ensures)
+    (via_skims spelled_interface_fields interface_fields interface_of (λ b. refl) (IsAtMost fields_weight) Told
+    (λ n b fits. tt) _ _ _ c.in-Err.ensures)

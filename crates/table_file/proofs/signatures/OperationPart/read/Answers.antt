@@ -11,5 +11,12 @@ returns-in_err-name c =
 
 pub returns : goal.returns
 returns c =
-    let x : Operation = record { name = c.in_ok-name.name; oneway = c.in_ok-name.oneway; request = c.in_ok-name.request; reply = c.in_ok-name.reply; exceptions = c.in_ok-name.exceptions } in
+    let x : Operation = record {
+      name = c.in_ok-name.name;
+      oneway = c.in_ok-name.oneway;
+      request =
+          c.in_ok-name.request;
+      reply = c.in_ok-name.reply;
+      exceptions = c.in_ok-name.exceptions;
+    } in
     via_reads spelled_operation_fields operation_fields x _ _ c.in_ok-name.ensures

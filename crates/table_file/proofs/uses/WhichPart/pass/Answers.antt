@@ -8,4 +8,5 @@ use Rattle.table_file.proofs.uses.WhichPart.pass.Goals as goal
 
 pub returns : goal.returns
 returns c =
-    one_some spelled_which (λ n. Contains (0 ∷ 1 ∷ []) n) which_code one_which which_each which_only _ _ _ _ c.is_some.ensures c.one_of.ensures
+    one_some spelled_which (λ n. Contains (0 ∷ 1 ∷ []) n) which_code one_which which_each which_only _ _ _ _
+    c.is_some.ensures c.one_of.ensures

@@ -11,7 +11,8 @@ returns-in-Empty c = record {
   none = λ w n words.
       let graph = c.args.self.now in
       let number = c.args.number in
-      let known = shape_known c.self.inside.nodes.items graph c.self.inside.shapes.items c.deref.result.now number c.shape_at.result c.self.invariant.1 c.self.view_is c.deref.ensures.value c.shape_at.ensures in
+      let known = shape_known c.self.inside.nodes.items graph c.self.inside.shapes.items c.deref.result.now number
+      c.shape_at.result c.self.invariant.1 c.self.view_is c.deref.ensures.value c.shape_at.ensures in
       elim c.in-Empty.is [
         | inl e ↦ empty_none (leaves_of graph number) w n (subst (IsRun (leaves_of graph number)) e known.run) words
         | inr e ↦ mixed_none (leaves_of graph number) w n (subst (IsRun (leaves_of graph number)) e known.run) words

@@ -10,7 +10,9 @@ pub returns : goal.returns
 returns c =
     let graph = c.args.self.now in
     let number = c.args.number in
-    let known = shape_known c.self.inside.nodes.items graph c.self.inside.shapes.items c.deref.result.now number c.shape_at.result c.self.invariant.1 c.self.view_is c.deref.ensures.value c.shape_at.ensures in
+    let known = shape_known c.self.inside.nodes.items graph c.self.inside.shapes.items c.deref.result.now number
+    c.shape_at.result c.self.invariant.1 c.self.view_is c.deref.ensures.value c.shape_at.ensures in
     let rules : IsGraph graph = subst IsGraph c.self.view_is c.self.invariant.0 in
-    subst (λ octets. IfOk c.zeros.result (λ tape. tape.items ≡ octets)) (sym (zeros_within graph 64 number (rules.shallow number c.requires)))
+    subst (λ octets. IfOk c.zeros.result (λ tape. tape.items ≡ octets))
+    (sym (zeros_within graph 64 number (rules.shallow number c.requires)))
     (c.zeros.ensures (size_within 64 graph number) known.size)

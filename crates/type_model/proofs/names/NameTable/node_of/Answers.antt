@@ -18,7 +18,8 @@ returns-clause-found c = λ node.
     let pair = c.index.result.now in
     let found = c.in_ok-place.ensures.found in
     let distinct : AreDistinct names = subst AreDistinct c.self.view_is c.self.invariant.distinct in
-    let here : get_or names place pair ≡ pair = subst (λ (list : List (List ℕ × ℕ)). get_or list place pair ≡ pair) c.self.view_is (sym c.index.ensures) in (
+    let here : get_or names place pair ≡ pair =
+    subst (λ (list : List (List ℕ × ℕ)). get_or list place pair ≡ pair) c.self.view_is (sym c.index.ensures) in (
       stands names name place pair distinct found.0 found.1 here node,
       stands_alone names name place pair distinct found.0 found.1 here node,
     )

@@ -10,5 +10,9 @@ returns-in-None c =
     let text = string_bytes c.args.text in
     let octets = c.as_bytes.result.now in
     let same : octets ≡ text = c.as_bytes.ensures.value in
-    let stays = unchanged octets (λ k below. (λ e. c.in-None.ensures k (omega arith) below (or_right _ _ (eq-eqb _ 194 e)), λ e. c.in-None.ensures k (omega arith) below (or_left _ _ (eq-eqb _ 127 e)))) in
+    let stays = unchanged octets
+    (λ k below. (
+      λ e. c.in-None.ensures k (omega arith) below (or_right _ _ (eq-eqb _ 194 e)),
+      λ e. c.in-None.ensures k (omega arith) below (or_left _ _ (eq-eqb _ 127 e)),
+    )) in
     sym (passed text (IsUtf8-string_bytes c.args.text) ∙ subst (λ l. pass false l ≡ l) same stays)

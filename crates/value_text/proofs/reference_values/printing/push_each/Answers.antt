@@ -17,4 +17,5 @@ pub returns : goal.returns
 returns c =
     let profiles = c.args.profiles.now in
     let i = c.loop-profile.profile-index in
-    sym (ap (λ l. with_each c.loop-profile.out.items (trees_of l)) (drop_all i profiles c.loop-profile-test.false)) ∙ c.loop-profile.invariant
+    sym (ap (λ l. with_each c.loop-profile.out.items (trees_of l)) (drop_all i profiles c.loop-profile-test.false))
+    ∙ c.loop-profile.invariant

@@ -3,7 +3,7 @@ use Rattle.std.proofs.lemmas.Result.{on_ok_weaker}
 use Rattle.type_graph.specs.declared.width.Width.TheVariants.{Four}
 use Rattle.type_graph.specs.declared.width.Order.TheVariants.{Big}
 use Rattle.type_graph.specs.Words.{pad, word}
-use Rattle.value_text.proofs.Parts.{zero_more}
+use Rattle.value_text.proofs.OctetParts.{zero_more}
 use Rattle.value_text.proofs.reference_values.printing.push_long.Goals as goal
 
 pub loop-preserved : goal.loop-preserved
@@ -18,5 +18,6 @@ returns c =
     let end = word Big Four (pos c.args.n) in
     let counted : c.loop.counter ≡ pad (length front) 4 = omega (arith, c.loop-test.false, c.loop.auto.counter-end) in
     on_ok_weaker c.push_u32.result (λ added.
-    added ∙ ap (λ l. l ++ end) (c.loop.invariant ∙ ap (λ n. front ++ replicate n 0) counted) ∙ append_assoc front (replicate (pad (length front) 4) 0) end)
+    added ∙ ap (λ l. l ++ end) (c.loop.invariant ∙ ap (λ n. front ++ replicate n 0) counted)
+    ∙ append_assoc front (replicate (pad (length front) 4) 0) end)
     c.push_u32.ensures

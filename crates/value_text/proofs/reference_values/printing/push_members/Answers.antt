@@ -1,5 +1,5 @@
 use Rattle.std.proofs.Common.{sym, arith}
-use Rattle.value_text.proofs.Parts.{other_members}
+use Rattle.value_text.proofs.OctetParts.{other_members}
 use Rattle.value_text.proofs.reference_values.printing.push_members.Goals as goal
 
 pub returns-in_default : goal.returns-in_default

@@ -11,7 +11,8 @@ returns-then-len-ge-LARGE c =
     c.in_ok-push_head.ensures c.in_ok-extend_from_slice.ensures.items c.in_ok-extend_from_slice-2.ensures.items in
     if_ok c.put_before.result (λ all. all.items ≡ c.extend_from_slice-2.new.self.items ++ c.args.body.items)
     (λ all. all.items ≡ head ++ (c.args.header.now ++ (replicate c.args.gap 0 ++ c.args.body.items)))
-    (λ all e. all_joined c.extend_from_slice-2.new.self.items head c.args.header.now c.args.body.items all.items c.args.gap front e)
+    (λ all e. all_joined c.extend_from_slice-2.new.self.items head c.args.header.now c.args.body.items all.items
+    c.args.gap front e)
     c.put_before.ensures
 
 pub returns : goal.returns
@@ -22,4 +23,5 @@ returns c =
     c.in_ok-push_head.ensures c.in_ok-extend_from_slice.ensures.items c.in_ok-extend_from_slice-2.ensures.items in
     all_joined c.extend_from_slice-2.new.self.items head c.args.header.now c.args.body.items
     c.extend_from_slice-3.new.self.items c.args.gap front
-    (c.in_ok-extend_from_slice-3.ensures.items ∙ ap (λ (l : List ℕ). c.extend_from_slice-2.new.self.items ++ l) c.as_slice-2.ensures.value)
+    (c.in_ok-extend_from_slice-3.ensures.items
+    ∙ ap (λ (l : List ℕ). c.extend_from_slice-2.new.self.items ++ l) c.as_slice-2.ensures.value)

@@ -9,14 +9,17 @@ pub add_piece-requires-clause-limited : goal.add_piece-requires-clause-limited
 add_piece-requires-clause-limited c =
     let run = c.self.inside.octets.items in
     let kept = subst (λ (xs : List ℕ). breaks_run xs c.requires.head ≡ false) (sym c.self.view_is) c.requires.kept in
-    (joined_limit run c.args.fragment.now c.requires.head (omega (arith, c.self.invariant.numbered)) c.self.invariant.sized kept
+    (joined_limit run c.args.fragment.now c.requires.head (omega (arith, c.self.invariant.numbered))
+    c.self.invariant.sized kept
     c.requires.is.1).1
 
 pub invariant_of-self : goal.invariant_of-self
 invariant_of-self c =
     let run = c.self.inside.octets.items in
     let kept = subst (λ (xs : List ℕ). breaks_run xs c.requires.head ≡ false) (sym c.self.view_is) c.requires.kept in
-    let limit = joined_limit run c.args.fragment.now c.requires.head (omega (arith, c.self.invariant.numbered)) c.self.invariant.sized
+    let limit = joined_limit run c.args.fragment.now c.requires.head (omega (arith, c.self.invariant.numbered))
+    c.self.invariant.sized
     kept c.requires.is.1 in
-    left c.add_piece.result (IsAlone Reply) run (added run c.args.fragment.now) c.add_piece.new.run.items c.add_piece.ensures.added
+    left c.add_piece.result (IsAlone Reply) run (added run c.args.fragment.now) c.add_piece.new.run.items
+    c.add_piece.ensures.added
     c.add_piece.ensures.kept c.self.invariant (added_alone Reply run c.args.fragment.now c.self.invariant limit.1)

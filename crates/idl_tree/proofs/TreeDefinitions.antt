@@ -8,8 +8,8 @@ use Rattle.idl_tree.specs.DefinitionYields.{definition_yield, definitions_yield,
 use Rattle.idl_tree.specs.DefinitionShapes.{definition_shape, definitions_shape, spec_shape}
 use Rattle.idl_tree.proofs.Fronts.{Reads, begins}
 use Rattle.idl_tree.proofs.Same.{Among, Any, Leads, Same, fixed, so, ended, begun, next, closed, never, contrary, turned, leads_none, leads_first, leads_to, piece_among, kept_among, apart, wider, leaves}
-use Rattle.idl_tree.proofs.Lists.{Row, same_row}
-use Rattle.idl_tree.proofs.TreeLawsMembers.{BraceEnds}
+use Rattle.idl_tree.proofs.TreeLists.{Row, same_row}
+use Rattle.idl_tree.proofs.TreeMembers.{BraceEnds}
 use Rattle.idl_tree.proofs.Declarations.{declared, declaration_begins, same_declaration}
 use Rattle.idl_tree.proofs.Interfaces.{same_interface, interface_begins}
 
@@ -26,7 +26,8 @@ definition_starts_are (Pragma p) = kept_among PragmaToken _ p _ refl
 definition_starts_are (Declared d) = leads_first _ (declaration_begins d)
 definition_starts_are (InterfaceDcl i) = leads_first _ (interface_begins i)
 definition_starts_are (Module' id shape ds) =
-    leads_first _ (leads_first _ (leads_first _ (leads_first _ (leads_first _ (piece_among Keyword (codes "module") _ refl)))))
+    leads_first _ (leads_first _
+    (leads_first _ (leads_first _ (leads_first _ (piece_among Keyword (codes "module") _ refl)))))
 
 abbrev pub defined : List ℕ
 defined = 32 ∷ 33 ∷ 34 ∷ declared
@@ -37,26 +38,36 @@ definition_begins (Declared d) = leads_to (λ t. wider refl) (definition_starts_
 definition_begins (InterfaceDcl i) = leads_to (λ t. wider refl) (definition_starts_are (InterfaceDcl i))
 definition_begins (Module' id shape ds) = leads_to (λ t. wider refl) (definition_starts_are (Module' id shape ds))
 
-no_definition : {n : _} (d : Definition) (rest : Row_of-Definition n) {P : Type 0} → Same [] (definition_yield d ++ definitions_yield rest) P BraceEnds
-no_definition d rest = contrary (leads_to (λ t a. apart {ns = defined} refl a) leads_none) (leads_first _ (definition_begins d))
+no_definition : {n : _} (d : Definition) (rest : Row_of-Definition n) {P : Type 0}
+    → Same [] (definition_yield d ++ definitions_yield rest) P BraceEnds
+no_definition d rest = contrary (leads_to (λ t a. apart {ns = defined} refl a) leads_none)
+    (leads_first _ (definition_begins d))
 
 -- ---- definitions
 
 abbrev pub IsOneDefinition : Definition → Type 0
-IsOneDefinition d = (e : Definition) → Same (definition_yield d) (definition_yield e) (definition_shape d ≡ definition_shape e) Any
+IsOneDefinition d = (e : Definition)
+    → Same (definition_yield d) (definition_yield e) (definition_shape d ≡ definition_shape e) Any
 
 mutual
   pub same_definition : (d : Definition) → IsOneDefinition d
   same_definition (Pragma p) (Pragma q) = so (λ h. cc) (leaves PragmaToken p q)
-  same_definition (Declared d) (Declared e) = so (λ h. cc) (ended (mark (codes ";")) (same_declaration d e) (piece_among Punct (codes ";") _ refl))
-  same_definition (InterfaceDcl i) (InterfaceDcl j) = so (λ h. cc) (ended (mark (codes ";")) (same_interface i j) (piece_among Punct (codes ";") _ refl))
+  same_definition (Declared d) (Declared e) =
+      so (λ h. cc) (ended (mark (codes ";")) (same_declaration d e) (piece_among Punct (codes ";") _ refl))
+  same_definition (InterfaceDcl i) (InterfaceDcl j) =
+      so (λ h. cc) (ended (mark (codes ";")) (same_interface i j) (piece_among Punct (codes ";") _ refl))
   same_definition (Module' id shape ds) (Module' other shape' es) =
       so (λ h. let x = h.0 in let y = h.1 in cc)
-      (closed (mark (codes ";")) (ended (mark (codes "}")) (next (closed (mark (codes "{")) (begun (keyword (codes "module")) (leaves Ident id other))) (same_definitions ds es))
+      (closed (mark (codes ";"))
+      (ended (mark (codes "}"))
+      (next (closed (mark (codes "{")) (begun (keyword (codes "module")) (leaves Ident id other)))
+      (same_definitions ds es))
       (piece_among Punct (codes "}") _ refl)))
-  same_definition d e = never (definition_starts d) (definition_starts e) refl (definition_starts_are d) (definition_starts_are e)
+  same_definition d e = never (definition_starts d) (definition_starts e) refl (definition_starts_are d)
+      (definition_starts_are e)
 
-  same_definitions : {n m : _} (ds : Row_of-Definition n) (es : Row_of-Definition m) → Same (definitions_yield ds) (definitions_yield es) (definitions_shape ds ≡ definitions_shape es) BraceEnds
+  same_definitions : {n m : _} (ds : Row_of-Definition n) (es : Row_of-Definition m)
+      → Same (definitions_yield ds) (definitions_yield es) (definitions_shape ds ≡ definitions_shape es) BraceEnds
   same_definitions end_of-Definition end_of-Definition = so (λ u. refl) (fixed [])
   same_definitions end_of-Definition (more_of-Definition e es) = no_definition e es
   same_definitions (more_of-Definition d ds) end_of-Definition = turned (λ h. h) (no_definition d ds)
@@ -82,12 +93,14 @@ at_end : Ended []
 unfolding begins
 at_end = record { is = refl }
 
-pub spelled_at : (x : List Piece) (t : List Seen) (o : Option (List Seen)) → past x (Some t) ≡ o → is_end o ≡ true → Reads x t []
+pub spelled_at : (x : List Piece) (t : List Seen) (o : Option (List Seen)) → past x (Some t) ≡ o → is_end o ≡ true
+    → Reads x t []
 spelled_at x t None e h = absurd (cc)
 spelled_at x t (Some []) e h = record { is = e }
 spelled_at x t (Some (s ∷ ss)) e h = absurd (cc)
 
-pub same_spec : (tokens : List Token) (ds es : List Definition) → Spell (definitions_spelled ds) tokens → Spell (definitions_spelled es) tokens → spec_shape ds ≡ spec_shape es
+pub same_spec : (tokens : List Token) (ds es : List Definition) → Spell (definitions_spelled ds) tokens
+    → Spell (definitions_spelled es) tokens → spec_shape ds ≡ spec_shape es
 same_spec tokens ds es h k =
     let t = seen_from 0 tokens in
     ((same_row definitions ds es).by t [] [] (spelled_at _ t _ refl h) (spelled_at _ t _ refl k) at_end at_end).0

@@ -25,8 +25,8 @@ use Rattle.idl_tree.specs.TypeYields.{integer_size_yield, integer_yield, string_
 use Rattle.idl_tree.specs.Shapes.{leaf_shape, bound_shape, const_expr_shape}
 use Rattle.idl_tree.specs.TypeShapes.{integer_size_shape, integer_shape, const_type_shape, param_type_shape, simple_type_shape, declarator_shape, enum_shape, switch_shape, label_shape}
 use Rattle.idl_tree.proofs.Same.{Among, Avoids, Any, Leads, Same, fixed, so, under, then, ended, begun, next, closed, never, longer, turned, leads_none, leads_first, leads_to, leads_any, piece_among, piece_avoids, kept_among, kept_avoids, apart, fewer, wider, leaves, leaves_of}
-use Rattle.idl_tree.proofs.Lists.{Row, Commas, Maybe, same_row, same_listed, same_optional}
-use Rattle.idl_tree.proofs.Names.{same_name, name_begins}
+use Rattle.idl_tree.proofs.TreeLists.{Row, Commas, Maybe, same_row, same_listed, same_optional}
+use Rattle.idl_tree.proofs.TreeNames.{same_name, name_begins}
 use Rattle.idl_tree.proofs.Expressions.{bound_ended, mark_ends, bound_ends, same_const_expr, same_bound}
 
 -- what can't stand behind a type: long, ::, <
@@ -44,14 +44,21 @@ size_begins Short = piece_among Keyword (codes "short") _ refl
 size_begins Long = piece_among Keyword (codes "long") _ refl
 size_begins LongLong = leads_first _ (piece_among Keyword (codes "long") _ refl)
 
-same_size : (a b : IntegerSize) → Same (integer_size_yield a) (integer_size_yield b) (integer_size_shape a ≡ integer_size_shape b) (Avoids (11 ∷ []))
+same_size : (a b : IntegerSize)
+    → Same (integer_size_yield a) (integer_size_yield b) (integer_size_shape a ≡ integer_size_shape b)
+    (Avoids (11 ∷ []))
 same_size Short Short = so (λ u. refl) (fixed _)
 same_size Long Long = so (λ u. refl) (fixed _)
 same_size LongLong LongLong = so (λ u. refl) (fixed _)
-same_size Short Long = never (10 ∷ []) (11 ∷ []) refl (piece_among Keyword (codes "short") _ refl) (piece_among Keyword (codes "long") _ refl)
-same_size Short LongLong = never (10 ∷ []) (11 ∷ []) refl (piece_among Keyword (codes "short") _ refl) (leads_first _ (piece_among Keyword (codes "long") _ refl))
-same_size Long Short = never (11 ∷ []) (10 ∷ []) refl (piece_among Keyword (codes "long") _ refl) (piece_among Keyword (codes "short") _ refl)
-same_size LongLong Short = never (11 ∷ []) (10 ∷ []) refl (leads_first _ (piece_among Keyword (codes "long") _ refl)) (piece_among Keyword (codes "short") _ refl)
+same_size Short Long = never (10 ∷ []) (11 ∷ []) refl (piece_among Keyword (codes "short") _ refl)
+    (piece_among Keyword (codes "long") _ refl)
+same_size Short LongLong =
+    never (10 ∷ []) (11 ∷ []) refl (piece_among Keyword (codes "short") _ refl)
+    (leads_first _ (piece_among Keyword (codes "long") _ refl))
+same_size Long Short = never (11 ∷ []) (10 ∷ []) refl (piece_among Keyword (codes "long") _ refl)
+    (piece_among Keyword (codes "short") _ refl)
+same_size LongLong Short = never (11 ∷ []) (10 ∷ []) refl (leads_first _ (piece_among Keyword (codes "long") _ refl))
+    (piece_among Keyword (codes "short") _ refl)
 same_size Long LongLong = longer _ (λ t s. s) (fixed _) (piece_among Keyword (codes "long") _ refl)
 same_size LongLong Long = turned (λ h. h) (longer _ (λ t s. s) (fixed _) (piece_among Keyword (codes "long") _ refl))
 
@@ -59,11 +66,16 @@ pub integer_begins : (a : Integer) → Leads (integer_yield a) Any (Among (10 �
 integer_begins (Signed s) = leads_to (λ t. wider refl) (size_begins s)
 integer_begins (Unsigned s) = leads_first _ (piece_among Keyword (codes "unsigned") _ refl)
 
-pub same_integer : (a b : Integer) → Same (integer_yield a) (integer_yield b) (integer_shape a ≡ integer_shape b) (Avoids (11 ∷ []))
+pub same_integer : (a b : Integer)
+    → Same (integer_yield a) (integer_yield b) (integer_shape a ≡ integer_shape b) (Avoids (11 ∷ []))
 same_integer (Signed s) (Signed r) = so (λ h. cc) (same_size s r)
 same_integer (Unsigned s) (Unsigned r) = so (λ h. cc) (begun (keyword (codes "unsigned")) (same_size s r))
-same_integer (Signed s) (Unsigned r) = never (10 ∷ 11 ∷ []) (12 ∷ []) refl (leads_any (size_begins s)) (leads_first _ (piece_among Keyword (codes "unsigned") _ refl))
-same_integer (Unsigned s) (Signed r) = never (12 ∷ []) (10 ∷ 11 ∷ []) refl (leads_first _ (piece_among Keyword (codes "unsigned") _ refl)) (leads_any (size_begins r))
+same_integer (Signed s) (Unsigned r) =
+    never (10 ∷ 11 ∷ []) (12 ∷ []) refl (leads_any (size_begins s))
+    (leads_first _ (piece_among Keyword (codes "unsigned") _ refl))
+same_integer (Unsigned s) (Signed r) =
+    never (12 ∷ []) (10 ∷ 11 ∷ []) refl (leads_first _ (piece_among Keyword (codes "unsigned") _ refl))
+    (leads_any (size_begins r))
 
 -- ---- types of constants
 
@@ -101,14 +113,18 @@ const_type_begins ConstTypes.Octet = piece_among Keyword (codes "octet") _ refl
 const_type_begins (ConstTypes.String bound) = leads_first _ (piece_among Keyword (codes "string") _ refl)
 const_type_begins (ConstTypes.Name n) = leads_to (λ t. wider refl) (name_begins n)
 
-pub same_const_type : (a b : ConstType) → Same (const_type_yield a) (const_type_yield b) (const_type_shape a ≡ const_type_shape b) TypeEnds
-same_const_type (ConstTypes.Integer i) (ConstTypes.Integer j) = under (λ t. fewer refl) (so (λ h. cc) (same_integer i j))
+pub same_const_type : (a b : ConstType)
+    → Same (const_type_yield a) (const_type_yield b) (const_type_shape a ≡ const_type_shape b) TypeEnds
+same_const_type (ConstTypes.Integer i) (ConstTypes.Integer j) =
+    under (λ t. fewer refl) (so (λ h. cc) (same_integer i j))
 same_const_type ConstTypes.Char ConstTypes.Char = so (λ u. refl) (fixed _)
 same_const_type ConstTypes.Boolean ConstTypes.Boolean = so (λ u. refl) (fixed _)
 same_const_type ConstTypes.Octet ConstTypes.Octet = so (λ u. refl) (fixed _)
-same_const_type (ConstTypes.String a) (ConstTypes.String b) = so (λ h. cc) (begun (keyword (codes "string")) (same_optional string_bounds a b))
+same_const_type (ConstTypes.String a) (ConstTypes.String b) =
+    so (λ h. cc) (begun (keyword (codes "string")) (same_optional string_bounds a b))
 same_const_type (ConstTypes.Name n) (ConstTypes.Name m) = under (λ t. fewer refl) (so (λ h. cc) (same_name n m))
-same_const_type a b = never (const_starts a) (const_starts b) refl (leads_any (const_starts_are a)) (leads_any (const_starts_are b))
+same_const_type a b = never (const_starts a) (const_starts b) refl (leads_any (const_starts_are a))
+    (leads_any (const_starts_are b))
 
 -- ---- types of parameters
 
@@ -119,11 +135,14 @@ pub param_type_begins : (a : ParamType) → Leads (param_type_yield a) Any (Amon
 param_type_begins (ParamTypes.Plain t) = leads_to (λ t. wider refl) (const_type_begins t)
 param_type_begins ParamTypes.Object = piece_among Keyword (codes "Object") _ refl
 
-pub same_param_type : (a b : ParamType) → Same (param_type_yield a) (param_type_yield b) (param_type_shape a ≡ param_type_shape b) TypeEnds
+pub same_param_type : (a b : ParamType)
+    → Same (param_type_yield a) (param_type_yield b) (param_type_shape a ≡ param_type_shape b) TypeEnds
 same_param_type (ParamTypes.Plain t) (ParamTypes.Plain u) = so (λ h. cc) (same_const_type t u)
 same_param_type ParamTypes.Object ParamTypes.Object = so (λ u. refl) (fixed _)
-same_param_type (ParamTypes.Plain t) ParamTypes.Object = never consts (19 ∷ []) refl (leads_any (const_type_begins t)) (piece_among Keyword (codes "Object") _ refl)
-same_param_type ParamTypes.Object (ParamTypes.Plain u) = never (19 ∷ []) consts refl (piece_among Keyword (codes "Object") _ refl) (leads_any (const_type_begins u))
+same_param_type (ParamTypes.Plain t) ParamTypes.Object =
+    never consts (19 ∷ []) refl (leads_any (const_type_begins t)) (piece_among Keyword (codes "Object") _ refl)
+same_param_type ParamTypes.Object (ParamTypes.Plain u) =
+    never (19 ∷ []) consts refl (piece_among Keyword (codes "Object") _ refl) (leads_any (const_type_begins u))
 
 -- ---- sequences
 
@@ -132,7 +151,8 @@ simples = 20 ∷ params
 
 pub simple_type_begins : (a : SimpleType) → Leads (simple_type_yield a) Any (Among simples)
 simple_type_begins (Plain t) = leads_to (λ t. wider refl) (param_type_begins t)
-simple_type_begins (Sequence' p element bound) = leads_first _ (leads_first _ (leads_first _ (leads_first _ (piece_among Keyword (codes "sequence") _ refl))))
+simple_type_begins (Sequence' p element bound) =
+    leads_first _ (leads_first _ (leads_first _ (leads_first _ (piece_among Keyword (codes "sequence") _ refl))))
 
 sequence_bounds : Maybe sequence_bound_yield bound_shape (71 ∷ []) (Among (64 ∷ []))
 sequence_bounds = record {
@@ -145,14 +165,22 @@ behind_element : (bound : Option Bound) → Leads (optional sequence_bound_yield
 behind_element None = leads_to (λ t. apart refl) leads_none
 behind_element (Some b) = leads_first _ (leads_to (λ t a. apart refl a) (piece_among Punct (codes ",") (71 ∷ []) refl))
 
-pub same_simple_type : (a b : SimpleType) → Same (simple_type_yield a) (simple_type_yield b) (simple_type_shape a ≡ simple_type_shape b) TypeEnds
+pub same_simple_type : (a b : SimpleType)
+    → Same (simple_type_yield a) (simple_type_yield b) (simple_type_shape a ≡ simple_type_shape b) TypeEnds
 same_simple_type (Plain t) (Plain u) = so (λ h. cc) (same_param_type t u)
 same_simple_type (Sequence' p e b) (Sequence' q f c) =
     so (λ h. let x = h.0 in let y = h.1 in cc)
-    (ended (mark (codes ">")) (then (begun (keyword (codes "sequence") ++ mark (codes "<")) (same_simple_type e f)) (behind_element b) (behind_element c) (same_optional sequence_bounds b c))
+    (ended (mark (codes ">"))
+    (then (begun (keyword (codes "sequence") ++ mark (codes "<")) (same_simple_type e f)) (behind_element b)
+    (behind_element c) (same_optional sequence_bounds b c))
     (piece_among Punct (codes ">") _ refl))
-same_simple_type (Plain t) (Sequence' q f c) = never params (20 ∷ []) refl (leads_any (param_type_begins t)) (leads_first _ (leads_first _ (leads_first _ (leads_first _ (piece_among Keyword (codes "sequence") _ refl)))))
-same_simple_type (Sequence' p e b) (Plain u) = never (20 ∷ []) params refl (leads_first _ (leads_first _ (leads_first _ (leads_first _ (piece_among Keyword (codes "sequence") _ refl))))) (leads_any (param_type_begins u))
+same_simple_type (Plain t) (Sequence' q f c) =
+    never params (20 ∷ []) refl (leads_any (param_type_begins t))
+    (leads_first _ (leads_first _ (leads_first _ (leads_first _ (piece_among Keyword (codes "sequence") _ refl)))))
+same_simple_type (Sequence' p e b) (Plain u) =
+    never (20 ∷ []) params refl
+    (leads_first _ (leads_first _ (leads_first _ (leads_first _ (piece_among Keyword (codes "sequence") _ refl)))))
+    (leads_any (param_type_begins u))
 
 -- ---- declarators
 
@@ -164,7 +192,8 @@ DeclaratorsEnd t = Avoids (71 ∷ 77 ∷ []) t
 
 sizes : Row size_yield const_expr_shape (77 ∷ []) Any DeclaratorEnds
 sizes = record {
-  one = λ a b. ended (mark (codes "]")) (begun (mark (codes "[")) (same_const_expr a b)) (mark_ends (codes "]") true 0 refl);
+  one = λ a b. ended (mark (codes "]")) (begun (mark (codes "[")) (same_const_expr a b))
+      (mark_ends (codes "]") true 0 refl);
   first = λ a. leads_first _ (leads_first _ (piece_among Punct (codes "[") _ refl));
   more = λ t a. tt;
   end = λ t a. tt;
@@ -174,9 +203,11 @@ sizes = record {
 pub declarator_begins : (d : Declarator) → Leads (declarator_yield d) Any (Among (17 ∷ []))
 declarator_begins d = leads_first _ (kept_among Ident _ d.identifier _ refl)
 
-pub same_declarator : (a b : Declarator) → Same (declarator_yield a) (declarator_yield b) (declarator_shape a ≡ declarator_shape b) DeclaratorEnds
+pub same_declarator : (a b : Declarator)
+    → Same (declarator_yield a) (declarator_yield b) (declarator_shape a ≡ declarator_shape b) DeclaratorEnds
 same_declarator a b =
-    so (λ h. let x = h.0 in let y = h.1 in cc) (next (leaves Ident a.identifier b.identifier) (same_row sizes a.sizes.items b.sizes.items))
+    so (λ h. let x = h.0 in let y = h.1 in cc)
+    (next (leaves Ident a.identifier b.identifier) (same_row sizes a.sizes.items b.sizes.items))
 
 pub declarators : Commas declarator_yield declarator_shape DeclaratorEnds DeclaratorsEnd
 declarators = record {
@@ -202,14 +233,18 @@ identifiers = record {
   none = λ t a. a;
 }
 
-pub same_enum : (a b : EnumType) {S : List Seen → Type 0} → Same (enum_yield a) (enum_yield b) (enum_shape a ≡ enum_shape b) S
+pub same_enum : (a b : EnumType) {S : List Seen → Type 0}
+    → Same (enum_yield a) (enum_yield b) (enum_shape a ≡ enum_shape b) S
 same_enum a b =
     so (λ h. let x = h.0 in let y = h.1 in cc)
-    (ended (mark (codes "}")) (next (closed (mark (codes "{")) (begun (keyword (codes "enum")) (leaves Ident a.identifier b.identifier))) (same_listed identifiers a.enumerators.value b.enumerators.value))
+    (ended (mark (codes "}"))
+    (next (closed (mark (codes "{")) (begun (keyword (codes "enum")) (leaves Ident a.identifier b.identifier)))
+    (same_listed identifiers a.enumerators.value b.enumerators.value))
     (piece_avoids Punct (codes "}") _ refl))
 
 pub enum_begins : (a : EnumType) → Leads (enum_yield a) Any (Among (23 ∷ []))
-enum_begins a = leads_first _ (leads_first _ (leads_first _ (leads_first _ (piece_among Keyword (codes "enum") _ refl))))
+enum_begins a = leads_first _
+    (leads_first _ (leads_first _ (leads_first _ (piece_among Keyword (codes "enum") _ refl))))
 
 -- ---- the types of discriminators
 
@@ -233,7 +268,8 @@ same_switch SwitchTypes.Char SwitchTypes.Char = so (λ u. refl) (fixed _)
 same_switch SwitchTypes.Boolean SwitchTypes.Boolean = so (λ u. refl) (fixed _)
 same_switch (SwitchTypes.Enum e) (SwitchTypes.Enum f) = so (λ h. cc) (same_enum e f)
 same_switch (SwitchTypes.Name n) (SwitchTypes.Name m) = under (λ t. fewer refl) (so (λ h. cc) (same_name n m))
-same_switch a b = never (switch_starts a) (switch_starts b) refl (leads_any (switch_begins a)) (leads_any (switch_begins b))
+same_switch a b = never (switch_starts a) (switch_starts b) refl (leads_any (switch_begins a))
+    (leads_any (switch_begins b))
 
 -- ---- labels
 
@@ -249,10 +285,15 @@ pub label_begins : (a : Label) → Leads (label_yield a) Any (Among (40 ∷ 41 �
 label_begins (Labels.Case e) = leads_to (λ t. wider refl) (label_starts_are (Labels.Case e))
 label_begins (Labels.Default l) = leads_to (λ t. wider refl) (label_starts_are (Labels.Default l))
 
-same_label : (a b : Label) {S : List Seen → Type 0} → Same (label_yield a) (label_yield b) (label_shape a ≡ label_shape b) S
-same_label (Labels.Case e) (Labels.Case f) = so (λ h. cc) (ended (mark (codes ":")) (begun (keyword (codes "case")) (same_const_expr e f)) (mark_ends (codes ":") true 0 refl))
-same_label (Labels.Default l) (Labels.Default k) = so (λ h. cc) (closed (mark (codes ":")) (leaves_of Keyword (codes "default") (codes "default") l k))
-same_label a b = never (label_starts a) (label_starts b) refl (leads_any (label_starts_are a)) (leads_any (label_starts_are b))
+same_label : (a b : Label) {S : List Seen → Type 0}
+    → Same (label_yield a) (label_yield b) (label_shape a ≡ label_shape b) S
+same_label (Labels.Case e) (Labels.Case f) =
+    so (λ h. cc) (ended (mark (codes ":")) (begun (keyword (codes "case")) (same_const_expr e f))
+    (mark_ends (codes ":") true 0 refl))
+same_label (Labels.Default l) (Labels.Default k) =
+    so (λ h. cc) (closed (mark (codes ":")) (leaves_of Keyword (codes "default") (codes "default") l k))
+same_label a b = never (label_starts a) (label_starts b) refl (leads_any (label_starts_are a))
+    (leads_any (label_starts_are b))
 
 pub labels : Row label_yield label_shape (40 ∷ 41 ∷ []) Any (Avoids (40 ∷ 41 ∷ []))
 labels = record {

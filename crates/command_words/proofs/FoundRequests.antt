@@ -23,7 +23,8 @@ some_since found text is = rw is refl
 pub different : (a b : ℕ) → a ≡ b → (a ≡ b → ⊥) → ⊥
 different a b same other = other same
 
-pub order_of : (found : Option Text) (a b : Order) → found ≡ Some (word_of b) → (a ≡ Little) ↔ (found ≡ Some (codes "little")) → a ≡ b
+pub order_of : (found : Option Text) (a b : Order) → found ≡ Some (word_of b) → (a ≡ Little)
+    ↔ (found ≡ Some (codes "little")) → a ≡ b
 order_of found a Little is little = little.1 is
 order_of found Big Big is little = refl
 order_of found Little Big is little =
@@ -38,7 +39,8 @@ module _ (found : Found) (way : Way) (form : Form) (input : Text) where
     pub table : first_value found (codes "T") ≡ Some asked.table.now
     pub name : first_value found (codes "NAME") ≡ Some asked.request.name.now
     pub order : (asked.request.order ≡ Little) ↔ (first_value found (codes "ORDER") ≡ Some (codes "little"))
-    pub pos : (text : Text) → one_text found (codes "POS") ≡ Some text → digits_value 10 (without_leading_plus text) ≡ asked.request.pos
+    pub pos : (text : Text) → one_text found (codes "POS") ≡ Some text
+        → digits_value 10 (without_leading_plus text) ≡ asked.request.pos
 
   -- nothing is missing where each word was found
   abbrev pub IsWhole : Option ValueTask → Type 0
@@ -56,7 +58,8 @@ module _ (found : Found) (way : Way) (form : Form) (input : Text) where
     digits_are : one_text found (codes "POS") ≡ Some tells.pos.digits
     digits_are = one_text-rows found (codes "POS") ∙ tells.pos.found
 
-    pub is_asked : (asked : ValueTask) → way ≡ ask.value.way → form ≡ ask.form → input ≡ ask.value.input → IsRequest asked
+    pub is_asked : (asked : ValueTask) → way ≡ ask.value.way → form ≡ ask.form → input ≡ ask.value.input
+        → IsRequest asked
         → value_ask_of asked ≡ ask
     is_asked asked way_is form_is input_is is =
         let table : asked.table.now ≡ ask.table = same_some _ _ _ is.table (found_first _ _ tells.table) in
@@ -66,11 +69,13 @@ module _ (found : Found) (way : Way) (form : Form) (input : Text) where
         rw (is.way_is ∙ way_is, is.form_is ∙ form_is, is.input_is ∙ input_is, table, name, order, pos) refl
 
     pub some_asked : (result : Option ValueTask) → IsWhole result → IsSome result
-    some_asked result whole = whole (some_since _ _ (found_first _ _ tells.table)) (some_since _ _ (found_first _ _ tells.name))
+    some_asked result whole =
+        whole (some_since _ _ (found_first _ _ tells.table)) (some_since _ _ (found_first _ _ tells.name))
         (some_since _ _ (found_first _ _ tells.order))
         tells.pos.digits digits_are tells.pos.numeral (rw tells.pos.is tells.pos.fits)
 
-    pub asked : (result : Option ValueTask) → way ≡ ask.value.way → form ≡ ask.form → input ≡ ask.value.input → IsWhole result
+    pub asked : (result : Option ValueTask) → way ≡ ask.value.way → form ≡ ask.form → input ≡ ask.value.input
+        → IsWhole result
         → IfSome result IsRequest
         → IsSomeAnd result (λ asked. Some (Value (value_ask_of asked)) ≡ Some (Value ask))
     asked None way_is form_is input_is whole is =
