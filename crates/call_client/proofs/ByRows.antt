@@ -1,11 +1,12 @@
 -- Calls by the profiles of references.
-use Rattle.std.proofs.Common.{◌≡◌, ℕ, suc, ◌+◌, ◌<◌, List, [], ◌∷◌, ◌++◌, length, take, drop, get_or, sym, ap, ◌∙◌, subst, append_assoc, append-nil, refl, inl, inr, Option, Result, Ok, Err}
+use Rattle.std.proofs.Common.{◌≡◌, ℕ, suc, ◌+◌, ◌<◌, List, [], ◌∷◌, ◌++◌, length, take, drop, get_or, sym, ap, ◌∙◌, subst, append_assoc, append-nil, true, false, inl, inr, Option, Result, Ok, Err}
 use Rattle.std.specs.declared.vec.Vec.{Vec}
 use Rattle.std.specs.declared.alloc.Global.{Global}
 use Rattle.iiop_broker.specs.Outcomes.{Ends}
 use Rattle.call_client.specs.declared.answer.Answer.{Answer}
 use Rattle.call_client.specs.declared.fault.CallFault.{CallFault}
-use Rattle.call_client.specs.declared.fault.CallFault.TheVariants.{NeedsAddressingMode, NoMemory, NotReached}
+use Rattle.call_client.specs.declared.fault.CallFault.TheVariants.{NeedsAddressingMode, NotARequest, NotReached}
+use Rattle.giop_messages.specs.declared.fault.GiopFault.TheVariants.{NoMemory}
 use Rattle.reference_listing.specs.declared.listing.IiopProfile.{IiopProfile}
 use Rattle.reference_listing.specs.declared.listing.ListedProfile.{ListedProfile}
 use Rattle.reference_listing.specs.declared.listing.ListedProfile.TheVariants as listed
@@ -13,7 +14,7 @@ use Rattle.reference_listing.specs.Listings.{iiop_of, row_of, rows_of}
 use Rattle.call_client.specs.Forms.{IsTarget, Naming}
 use Rattle.call_client.specs.Lines.{Line, all_missed, made, missed}
 use Rattle.type_graph.specs.Value.{Tree}
-use Rattle.call_client.specs.Talks.{Asking, IsBefore, IsCalledBy, IsCalledTo, IsGivenUp, IsTalkBy, IsTalkTo, IsTo, IsUnnamed, IsUnnamedBy, IsUnreached}
+use Rattle.call_client.specs.Talks.{Asking, IsBefore, IsCalledBy, IsCalledTo, IsGivenUp, IsTalkBy, IsTalkTo, IsTo, IsUnnamed, IsUnnamedBy, IsUnreached, misses}
 use Rattle.call_client.proofs.Rows.{missed_next, rows_before, rows_split}
 
 other_faults : NotReached ≡ NeedsAddressingMode → ⊥
@@ -22,7 +23,8 @@ other_faults e = cc
 module _ (Told Mid Told' : List Ends → Type 0) (ps : List ListedProfile) (i : ℕ) (p : ListedProfile)
     (within : i < length ps) (is : p ≡ get_or ps i p) (lines mid lines' : List Line)
     (vain : IsUnreached Told Mid (all_missed (rows_of (take i ps))) lines mid) where
-  talked : (ask : Asking) (naming : Naming) (place : ℕ) → place ≡ i → (profile : IiopProfile) → p ≡ listed.Iiop profile
+  pub talked : (ask : Asking) (naming : Naming) (place : ℕ) → place ≡ i → (profile : IiopProfile)
+      → p ≡ listed.Iiop profile
       → (result : Result (Option Answer) CallFault)
       → IsTalkTo Mid Told' ask (IsTarget naming place (iiop_of profile)) (iiop_of profile) mid result lines'
       → IsTalkBy Told Told' ask naming (rows_of ps) lines result lines'
@@ -68,11 +70,10 @@ module _ (Told Mid Told' : List Ends → Type 0) (ps : List ListedProfile) (i : 
     };
   }
 
-  given_up : (fault : CallFault) (some : List Line) → (fault ≡ NotReached → ⊥)
-      → IsBefore Mid Told' fault some [] mid lines'
+  given_up : (fault : CallFault) (some : List Line) → misses fault ≡ false → IsBefore Mid Told' fault some [] mid lines'
       → IsGivenUp Told Told' (rows_of ps) fault lines lines'
-  given_up NotReached some other more = absurd (other refl)
-  given_up NoMemory some other more = record {
+  given_up NotReached some other more = absurd (cc)
+  given_up (NotARequest NoMemory) some other more = record {
     some = all_missed (rows_of (take i ps));
     before = record {
       lines_are = more.lines_are ∙ append-nil mid ∙ vain.lines_are;
@@ -82,19 +83,16 @@ module _ (Told Mid Told' : List Ends → Type 0) (ps : List ListedProfile) (i : 
   given_up fault some other more = absurd more
 
   -- it ends with the call by this profile
-  pub called : (ask : Asking) (naming : Naming) (place : ℕ) → place ≡ i → (profile : IiopProfile)
+  pub faulted : (ask : Asking) (naming : Naming) (place : ℕ) → place ≡ i → (profile : IiopProfile)
       → p ≡ listed.Iiop profile
-      → (result : Result (Option Answer) CallFault) → (result ≡ Err NotReached → ⊥)
-      → IsCalledTo Mid Told' ask (IsTarget naming place (iiop_of profile)) (iiop_of profile) mid result lines'
-      → IsCalledBy Told Told' ask naming (rows_of ps) lines result lines'
-  called ask naming place place_is profile iiop (Ok answer) other to =
-      talked ask naming place place_is profile iiop (Ok answer) to
-  called ask naming place place_is profile iiop (Err fault) other (inl before) =
-      inl (given_up fault (missed profile.body.host.items profile.body.port ∷ [])
-      (λ (e : fault ≡ NotReached). other (ap (λ (f : CallFault). Err f) e)) before)
-  called ask naming place place_is profile iiop (Err fault) other (inr (inl none)) =
+      → (fault : CallFault) → misses fault ≡ false
+      → IsCalledTo Mid Told' ask (IsTarget naming place (iiop_of profile)) (iiop_of profile) mid (Err fault) lines'
+      → IsCalledBy Told Told' ask naming (rows_of ps) lines (Err fault) lines'
+  faulted ask naming place place_is profile iiop fault other (inl before) =
+      inl (given_up fault (missed profile.body.host.items profile.body.port ∷ []) other before)
+  faulted ask naming place place_is profile iiop fault other (inr (inl none)) =
       inr (inl (unnamed naming place place_is profile iiop fault none))
-  called ask naming place place_is profile iiop (Err fault) other (inr (inr to)) =
+  faulted ask naming place place_is profile iiop fault other (inr (inr to)) =
       inr (inr (talked ask naming place place_is profile iiop (Err fault) to))
 
   not_called : (ask : Asking) (Target : Tree → Type 0) (profile : IiopProfile)
@@ -115,11 +113,14 @@ module _ (Told Mid Told' : List Ends → Type 0) (ps : List ListedProfile) (i : 
   }
 
   pub missed_one : (ask : Asking) (Target : Tree → Type 0) (profile : IiopProfile) → p ≡ listed.Iiop profile
-      → IsCalledTo Mid Told' ask Target (iiop_of profile) mid (Err NotReached) lines'
+      → (fault : CallFault) → misses fault ≡ true
+      → IsCalledTo Mid Told' ask Target (iiop_of profile) mid (Err fault) lines'
       → IsUnreached Told Told' (all_missed (rows_of (take (i + 1) ps))) lines lines'
-  missed_one ask Target profile iiop (inl before) = missed_more profile iiop before
-  missed_one ask Target profile iiop (inr (inl none)) = absurd (other_faults none.fault_is)
-  missed_one ask Target profile iiop (inr (inr to)) = absurd (not_called ask Target profile to)
+  missed_one ask Target profile iiop NotReached other (inl before) = missed_more profile iiop before
+  missed_one ask Target profile iiop NotReached other (inr (inl none)) = absurd (other_faults none.fault_is)
+  missed_one ask Target profile iiop NotReached other (inr (inr to)) =
+      absurd (not_called ask Target profile to)
+  missed_one ask Target profile iiop fault other to = absurd (cc)
 
   pub passed : (tag : ℕ) (octets : Vec ℕ Global) → p ≡ listed.Other tag octets
       → IsUnreached Told Mid (all_missed (rows_of (take (i + 1) ps))) lines mid

@@ -1,5 +1,5 @@
 -- A call of an object at a port of a host, and of one that a reference names.
-use Rattle.std.specs.Prelude.{◌≡◌, ◌⊎◌, ℕ, List, [], ◌∷◌, ◌++◌, length, Option, Result, Ok, Err}
+use Rattle.std.specs.Prelude.{◌≡◌, ◌⊎◌, ℕ, Bool, true, false, List, [], ◌∷◌, ◌++◌, length, Option, Result, Ok, Err}
 use Rattle.type_graph.specs.Value.{Tree}
 use Rattle.giop.specs.Addresses.{target_tree}
 use Rattle.giop_messages.specs.Written.{Given}
@@ -8,7 +8,8 @@ use Rattle.call_client.specs.Calls.{IsCalled}
 use Rattle.call_client.specs.declared.answer.Answer.{Answer}
 use Rattle.call_client.specs.declared.request.Request.{Request}
 use Rattle.call_client.specs.declared.fault.CallFault.{CallFault}
-use Rattle.call_client.specs.declared.fault.CallFault.TheVariants.{NeedsAddressingMode, NoMemory, NotReached}
+use Rattle.call_client.specs.declared.fault.CallFault.TheVariants.{NeedsAddressingMode, NotARequest, NotReached}
+use Rattle.giop_messages.specs.declared.fault.GiopFault.TheVariants.{NoMemory}
 use Rattle.reference_listing.specs.Listings.{Iiop, Row, OfIiop}
 use Rattle.call_client.specs.Forms.{IsTarget, Naming}
 use Rattle.call_client.specs.Lines.{Line, all_missed, made, missed}
@@ -45,7 +46,7 @@ pub record IsUnreached (Told Told' : Telling) (vain : List Line) (lines lines' :
 -- some were. Each other fault is one of the call.
 abbrev pub IsBefore : Telling → Telling → CallFault → List Line → List Line → List Line → List Line → Type 0
 IsBefore Told Told' NotReached all some lines lines' = IsUnreached Told Told' all lines lines'
-IsBefore Told Told' NoMemory all some lines lines' = IsUnreached Told Told' some lines lines'
+IsBefore Told Told' (NotARequest NoMemory) all some lines lines' = IsUnreached Told Told' some lines lines'
 IsBefore Told Told' fault all some lines lines' = ⊥
 
 -- By what is told of the lines and of the connections that were handed back, before and after.
@@ -88,6 +89,11 @@ IsCalledTo Told Told' ask Target iiop lines (Err fault) lines' =
     IsBefore Told Told' fault (missed iiop.body.host iiop.body.port ∷ []) [] lines lines'
     ⊎ IsUnnamed Told Told' Target [] fault lines lines'
     ⊎ IsTalkTo Told Told' ask Target iiop lines (Err fault) lines'
+
+-- no connection could be made, and the next profile is tried
+abbrev pub misses : CallFault → Bool
+misses NotReached = true
+misses fault = false
 
 -- it was so by the first profile of IIOP whose host and port could be reached, whose object the target names
 pub record IsTalkBy (Told Told' : Telling) (ask : Asking) (naming : Naming) (rows : List Row) (lines : List Line)

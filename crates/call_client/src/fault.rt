@@ -10,7 +10,7 @@ use thiserror::Error;
 /// by this one. A fault has as its text the line that a program puts behind its name.
 #[derive(Clone, Copy, Debug, PartialEq, Eq, Error)]
 pub enum CallFault {
-    /// No octets are those of the request, or memory was wanted. Nothing was sent.
+    /// No octets are those of the request, or memory was wanted before they were sent. Nothing was sent.
     #[error("{0}")]
     NotARequest(GiopFault),
     /// No message of GIOP 1.2 stands where one should.
@@ -42,13 +42,13 @@ pub enum CallFault {
     /// The object was said to be elsewhere for the ninth time.
     #[error("140 TooManyForwards")]
     TooManyForwards,
-    /// The object is to be named in a form in which it can't be, or in another one after it was named as
-    /// its server asked.
+    /// The reference has no profile by which the object could be named in the form that is asked for.
     #[error("141 NeedsAddressingMode")]
     NeedsAddressingMode,
     /// No connection can be made to the port of the host.
     #[error("socket")]
     NotReached,
+    /// Memory was wanted for the reply.
     #[error("no memory")]
     NoMemory,
 }

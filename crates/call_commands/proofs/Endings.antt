@@ -1,5 +1,5 @@
 -- How calls end, by their outcomes.
-use Rattle.std.proofs.Common.{◌≡◌, List, sym, subst, inr, Option, Some, Result, Ok, Err}
+use Rattle.std.proofs.Common.{◌≡◌, List, sym, subst, Option, Some, Result, Ok, Err}
 use Rattle.reference_texts.specs.References.{Reference}
 use Rattle.command_texts.specs.declared.call_texts.outcome.Outcome.{Outcome}
 use Rattle.command_texts.specs.declared.call_texts.outcome.Outcome.TheVariants as outcomes
@@ -10,9 +10,8 @@ use Rattle.call_commands.specs.Choices.{Choice, chosen}
 use Rattle.call_commands.specs.declared.ask.TextCall.{TextCall}
 use Rattle.call_commands.specs.declared.ask.Types.{Types}
 use Rattle.call_commands.specs.declared.ending.Ending.{Ending}
-use Rattle.call_client.specs.declared.fault.CallFault.{CallFault}
 use Rattle.call_commands.specs.declared.fault.CallRefusal.{CallRefusal}
-use Rattle.call_commands.specs.declared.fault.CallRefusal.TheVariants.{NoOperation, Unsaid, Unanswered}
+use Rattle.call_commands.specs.declared.fault.CallRefusal.TheVariants.{NoOperation, Unsaid, Unanswered, Readdressed}
 
 module _ (Told Told' : Telling) (choice : Choice) (ask : TextCall) (reference : Reference) (lines lines' : List Line)
   where
@@ -25,16 +24,14 @@ module _ (Told Told' : Telling) (choice : Choice) (ask : TextCall) (reference : 
     last (outcomes.Failed exception) said = tt
     last (outcomes.Readdressed disposition) said = tt
 
-    pub ended : (outcome : Outcome) (ending : Ending) → IsEnding outcome (Ok ending)
+    pub ended : (outcome : Outcome) (result : Result Ending CallRefusal) → IsEnding outcome result
         → IsSaid Told Told' choice ask reference lines (Ok (Some outcome)) lines'
-        → IsCarriedOut Told Told' choice ask reference lines (Ok ending) lines'
-    ended outcome ending is said =
+        → IsCarriedOut Told Told' choice ask reference lines result lines'
+    ended outcome (Ok ending) is said =
         subst (λ (o : Option Outcome). IsSaid Told Told' choice ask reference lines (Ok o) lines') (sym is) said
-
-    pub readdressed : (outcome : Outcome) (fault : CallFault) → IsEnding outcome (Err fault)
-        → IsSaid Told Told' choice ask reference lines (Ok (Some outcome)) lines'
-        → IsCarriedOut Told Told' choice ask reference lines (Err (Unanswered fault)) lines'
-    readdressed outcome fault is said = inr (inr (record { outcome = outcome; asks = is; said = said }))
+    ended outcome (Err Readdressed) is said =
+        (is.0, subst (λ (o : Outcome). IsSaid Told Told' choice ask reference lines (Ok (Some o)) lines') is.1 said)
+    ended outcome (Err refusal) is said = absurd is
 
     -- the operation is the one that the word names
     pub text_called : (types : Types) (result : Result Ending CallRefusal)
@@ -45,3 +42,4 @@ module _ (Told Told' : Telling) (choice : Choice) (ask : TextCall) (reference : 
     text_called types (Err NoOperation) is carried = absurd carried
     text_called types (Err (Unsaid fault)) is carried = record { choice = choice; chosen_is = is; is = carried }
     text_called types (Err (Unanswered fault)) is carried = record { choice = choice; chosen_is = is; is = carried }
+    text_called types (Err Readdressed) is carried = record { choice = choice; chosen_is = is; is = carried }

@@ -3,7 +3,8 @@ use Rattle.std.proofs.Common.{List, [], ◌∷◌, ◌++◌, refl, sym, ap, subs
 use Rattle.iiop_broker.specs.Outcomes.{Ends}
 use Rattle.call_client.specs.declared.answer.Answer.{Answer}
 use Rattle.call_client.specs.declared.fault.CallFault.{CallFault}
-use Rattle.call_client.specs.declared.fault.CallFault.TheVariants.{NoMemory, NotReached}
+use Rattle.call_client.specs.declared.fault.CallFault.TheVariants.{NotARequest, NotReached}
+use Rattle.giop_messages.specs.declared.fault.GiopFault.TheVariants.{NoMemory}
 use Rattle.call_client.specs.Answers.{answer_of}
 use Rattle.reference_texts.specs.References.{Reference}
 use Rattle.reference_listing.specs.Listings.{AreRows, Row}
@@ -56,7 +57,7 @@ module _ (Told Told' : List Ends → Type 0) (ask : Asking) (by_name : Naming) (
       before = record { lines_are = up.before.lines_are; gone = λ all none. none };
     });
   }
-  given_up NoMemory up = record {
+  given_up (NotARequest NoMemory) up = record {
     tos = [];
     gone = nothing_gone up.before.gone;
     called = inl (record {
@@ -91,7 +92,7 @@ module _ (Told Told' : List Ends → Type 0) (ask : Asking) (by_name : Naming) (
 
 -- nothing was done
 pub undone : (Told : List Ends → Type 0) (ask : InForm) (called : Called) (reference : Reference) (lines : List Line)
-    → IsCalledOnce Told Told ask called reference lines (Err NoMemory) lines
+    → IsCalledOnce Told Told ask called reference lines (Err (NotARequest NoMemory)) lines
 undone Told ask called reference lines = record {
   tos = [];
   gone = λ all told. subst Told (sym (append-nil all)) told;

@@ -2,7 +2,8 @@
 use Rattle.std.proofs.Common.{◌≡◌, true, false, List, ◌++◌, refl, subst, append_assoc, inl, inr, Option, Result, Err}
 use Rattle.iiop_broker.specs.Outcomes.{Ends}
 use Rattle.call_client.specs.declared.fault.CallFault.{CallFault}
-use Rattle.call_client.specs.declared.fault.CallFault.TheVariants.{CloseConnection, NoMemory}
+use Rattle.call_client.specs.declared.fault.CallFault.TheVariants.{CloseConnection, NotARequest}
+use Rattle.giop_messages.specs.declared.fault.GiopFault.TheVariants.{NoMemory}
 use Rattle.reference_texts.specs.References.{Reference}
 use Rattle.command_texts.specs.Outcomes.{Called}
 use Rattle.command_texts.specs.declared.call_texts.outcome.Outcome.{Outcome}
@@ -15,7 +16,7 @@ closing : (result : Result (Option Outcome) CallFault) → closes result ≡ tru
 closing (Err CloseConnection) is = refl
 closing result is = absurd cc
 
-other_faults : CloseConnection ≡ NoMemory → ⊥
+other_faults : CloseConnection ≡ NotARequest NoMemory → ⊥
 other_faults e = cc
 
 -- the call was made, and not answered

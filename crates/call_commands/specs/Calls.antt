@@ -2,7 +2,8 @@
 use Rattle.std.specs.Prelude.{◌≡◌, ◌⊎◌, ℕ, Bool, true, false, List, Option, Some, None, Result, Ok, Err}
 use Rattle.giop.specs.Made.{given}
 use Rattle.call_client.specs.declared.fault.CallFault.{CallFault}
-use Rattle.call_client.specs.declared.fault.CallFault.TheVariants as faults
+use Rattle.call_client.specs.declared.fault.CallFault.TheVariants.{NotARequest}
+use Rattle.giop_messages.specs.declared.fault.GiopFault.TheVariants.{NoMemory}
 use Rattle.call_client.specs.declared.request.Request.{Request}
 use Rattle.reference_texts.specs.References.{Reference}
 use Rattle.command_texts.specs.Bodies.{IsTapeOfText, SaysNone}
@@ -18,7 +19,7 @@ use Rattle.call_commands.specs.declared.ask.Types.{Types}
 use Rattle.call_commands.specs.declared.ending.Ending.{Ending}
 use Rattle.call_commands.specs.declared.ending.Ending.TheVariants.{Returned, Raised, Failed, Sent}
 use Rattle.call_commands.specs.declared.fault.CallRefusal.{CallRefusal}
-use Rattle.call_commands.specs.declared.fault.CallRefusal.TheVariants.{NoOperation, Unsaid, Unanswered}
+use Rattle.call_commands.specs.declared.fault.CallRefusal.TheVariants.{NoOperation, Unsaid, Unanswered, Readdressed}
 
 -- which answers a request wants: none of a oneway operation, else all (response_flags)
 abbrev pub flags : Bool → ℕ
@@ -52,28 +53,16 @@ abbrev pub IsLastOutcome : Outcome → Type 0
 IsLastOutcome (outcomes.Forwarded ior) = ⊥
 IsLastOutcome outcome = Unit {0}
 
--- it asks for a form of address, and this stands for it
-pub record IsAskingForm (outcome : Outcome) (fault : CallFault) : Type 0 where
-  pub disposition : ℕ
-  pub outcome_is : outcome ≡ outcomes.Readdressed disposition
-  pub fault_is : fault ≡ faults.NeedsAddressingMode
-
 -- the ending of an outcome
-abbrev pub IsEnding : Outcome → Result Ending CallFault → Type 0
+abbrev pub IsEnding : Outcome → Result Ending CallRefusal → Type 0
 IsEnding outcome (Ok ending) = outcome_of ending ≡ Some outcome
-IsEnding outcome (Err fault) = IsAskingForm outcome fault
+IsEnding outcome (Err Readdressed) = (disposition : ℕ) × (outcome ≡ outcomes.Readdressed disposition)
+IsEnding outcome (Err refusal) = ⊥
 
 -- memory was wanted for the arguments, and nothing was dialled
 pub record IsUnstarted (fault : CallFault) (lines lines' : List Line) : Type 0 where
-  pub fault_is : fault ≡ faults.NoMemory
+  pub fault_is : fault ≡ NotARequest NoMemory
   pub lines_are : lines' ≡ lines
-
--- the last reply asked for a form of address
-pub record IsReaddressed (Told Told' : Telling) (choice : Choice) (ask : TextCall) (reference : Reference)
-    (lines : List Line) (fault : CallFault) (lines' : List Line) : Type 0 where
-  pub outcome : Outcome
-  pub asks : IsAskingForm outcome fault
-  pub said : IsSaid Told Told' choice ask reference lines (Ok (Some outcome)) lines'
 
 -- how the call of an operation ends; where it isn't sent, nothing was dialled
 abbrev pub IsCarriedOut : Telling → Telling → Choice → TextCall → Reference → List Line → Result Ending CallRefusal
@@ -85,7 +74,9 @@ IsCarriedOut Told Told' choice ask reference lines (Err (Unsaid fault)) lines' =
     SaysNone choice.labels choice.model.graph choice.request ask.value.now × (lines' ≡ lines)
 IsCarriedOut Told Told' choice ask reference lines (Err (Unanswered fault)) lines' =
     IsUnstarted fault lines lines' ⊎ IsSaid Told Told' choice ask reference lines (Err fault) lines'
-    ⊎ IsReaddressed Told Told' choice ask reference lines fault lines'
+IsCarriedOut Told Told' choice ask reference lines (Err Readdressed) lines' =
+    (disposition : ℕ)
+    × IsSaid Told Told' choice ask reference lines (Ok (Some (outcomes.Readdressed disposition))) lines'
 
 -- the operation that the word names was called
 pub record IsCalledBy (Told Told' : Telling) (types : Types) (ask : TextCall) (reference : Reference)

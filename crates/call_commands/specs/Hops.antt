@@ -4,7 +4,8 @@ use Rattle.giop_messages.specs.Messages.{Answered}
 use Rattle.iiop_broker.specs.Outcomes.{Ends}
 use Rattle.call_client.specs.declared.answer.Answer.{Answer}
 use Rattle.call_client.specs.declared.fault.CallFault.{CallFault}
-use Rattle.call_client.specs.declared.fault.CallFault.TheVariants.{NoMemory, OtherBody}
+use Rattle.call_client.specs.declared.fault.CallFault.TheVariants.{NoMemory, NotARequest, OtherBody}
+use Rattle.giop_messages.specs.declared.fault.GiopFault.TheVariants as messages
 use Rattle.call_client.specs.Answers.{answer_of}
 use Rattle.reference_texts.specs.References.{Reference}
 use Rattle.reference_listing.specs.Listings.{AreRows, Row}
@@ -51,7 +52,7 @@ pub record IsAnswered (ask : InForm) (called : Called) (reference : Reference) (
 
 -- memory was wanted for the profiles, and nothing was dialled
 pub record IsUntried (fault : CallFault) (lines lines' : List Line) (tos : List Ends) : Type 0 where
-  pub fault_is : fault ≡ NoMemory
+  pub fault_is : fault ≡ NotARequest messages.NoMemory
   pub lines_are : lines' ≡ lines
   pub tos_are : tos ≡ []
 

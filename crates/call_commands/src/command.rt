@@ -16,9 +16,9 @@ use type_model::part_names::PartNames;
 /// Calls an operation of the object that a reference names, with the arguments that a text says.
 ///
 /// # Errors
-/// `NoOperation`, `Unsaid` before anything is dialled; then as `call_object` of followed_calls says.
-/// `NeedsAddressingMode` also where its server asks for a form of address that there isn't, or again for
-/// one after the object was named as it asked. Want of memory.
+/// `NoOperation`, `Unsaid` before anything is dialled, or `NotARequest` with want of memory; then as
+/// `call_object` of followed_calls says; `Readdressed` where its server asks for a form of address that
+/// there isn't, or again for one after the object was named as it asked.
 pub fn call_text<D: Dial>(
     types: &Types<'_>,
     alloc: Global,

@@ -18,6 +18,10 @@ pub enum CallRefusal {
     Unsaid(TextFault),
     #[error("{0}")]
     Unanswered(CallFault),
+    /// The object is to be named in a form that there isn't, or in another one after it was named as its
+    /// server asked.
+    #[error("141 NeedsAddressingMode")]
+    Readdressed,
 }
 
 impl CallRefusal {
@@ -26,7 +30,8 @@ impl CallRefusal {
         ensures { result ≡ cause_of self.now }
     {
         match *self {
-            CallRefusal::NoOperation | CallRefusal::Unsaid(_) => Cause::Input,
+            CallRefusal::NoOperation | CallRefusal::Unsaid(_) | CallRefusal::Readdressed =>
+                Cause::Input,
             CallRefusal::Unanswered(fault) => fault.cause(),
         }
     }

@@ -16,6 +16,7 @@ use call_client::object_calls::Dial;
 use call_client::{CallFault, Request};
 use command_texts::call_texts::{Outcome, argument_tape};
 use giop::Addressed;
+use giop_messages::GiopFault;
 use reference_texts::Ior;
 use std::alloc::Global;
 use value_text::ReadFault;
@@ -28,7 +29,7 @@ fn flags_of(oneway: bool) -> u8
 }
 
 /// How a call ends, by its outcome, which isn't that the object is elsewhere.
-fn ending_of(outcome: Outcome) -> Result<Ending, CallFault>
+fn ending_of(outcome: Outcome) -> Result<Ending, CallRefusal>
     requires { IsLastOutcome outcome }
     ensures { IsEnding outcome result }
 {
@@ -36,7 +37,7 @@ fn ending_of(outcome: Outcome) -> Result<Ending, CallFault>
         Outcome::Returned(text) => Ok(Ending::Returned(text)),
         Outcome::Raised(text) => Ok(Ending::Raised(text)),
         Outcome::Failed(exception) => Ok(Ending::Failed(exception)),
-        Outcome::Readdressed(_) => Err(CallFault::NeedsAddressingMode),
+        Outcome::Readdressed(_) => Err(CallRefusal::Readdressed),
         Outcome::Forwarded(_) => unreachable!(),
     }
 }
@@ -94,17 +95,16 @@ pub(crate) fn called<D: Dial>(
     let tape = match argument_tape(alloc, choice.table, choice.names, choice.request, ask.value) {
         Ok(tape) => tape,
         Err(ReadFault::Refused(refusal)) => return Err(CallRefusal::Unsaid(refusal)),
-        Err(ReadFault::NoMemory) => return Err(CallRefusal::Unanswered(CallFault::NoMemory)),
+        Err(ReadFault::NoMemory) => {
+            return Err(CallRefusal::Unanswered(CallFault::NotARequest(GiopFault::NoMemory)));
+        }
     };
     let end = match said(types, alloc, dial, ior, choice, ask, tape.as_slice()) {
         Ok(end) => end,
         Err(fault) => return Err(CallRefusal::Unanswered(fault)),
     };
     match end {
-        Some(outcome) => match ending_of(outcome) {
-            Ok(ending) => Ok(ending),
-            Err(fault) => Err(CallRefusal::Unanswered(fault)),
-        },
+        Some(outcome) => ending_of(outcome),
         None => Ok(Ending::Sent),
     }
 }

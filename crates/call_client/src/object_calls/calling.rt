@@ -8,13 +8,14 @@ ghost use Rattle.call_client.specs.Talks.{IsCalledAt, asking};
 use crate::object_calls::dial::{Dial, DialFault};
 use crate::{Answer, CallFault, Request, call};
 use giop::{Body, Giop};
+use giop_messages::GiopFault;
 use std::alloc::Global;
 
 /// Calls an object at a port of a host, on a connection of its own. So many reads may give octets.
 ///
 /// # Errors
-/// `NotReached` where no connection can be made; want of memory for one, and no call was made; else as
-/// `call` of call_client says.
+/// `NotReached` where no connection can be made; `NotARequest` with want of memory where memory was wanted
+/// for one, and no call was made; else as `call` of call_client says.
 pub fn call_at<D: Dial>(
     giop: &Giop,
     alloc: Global,
@@ -32,7 +33,7 @@ pub fn call_at<D: Dial>(
     let (mut reader, mut writer) = match dial.dial(host, port) {
         Ok((reader, writer)) => (reader, writer),
         Err(DialFault::NotReached) => return Err(CallFault::NotReached),
-        Err(DialFault::NoMemory) => return Err(CallFault::NoMemory),
+        Err(DialFault::NoMemory) => return Err(CallFault::NotARequest(GiopFault::NoMemory)),
     };
     let called = call(giop, alloc, &mut reader, &mut writer, request, body, reads);
     dial.hang_up(reader, writer);

@@ -9,7 +9,7 @@ ghost use Rattle.giop.specs.Made.{given_by};
 ghost use Rattle.reference_texts.specs.References.{reference_of};
 ghost use Rattle.reference_listing.specs.Listings.{iiop_of, rows_of};
 ghost use Rattle.call_client.specs.Forms.{IsProfileAt, IsTarget, naming};
-ghost use Rattle.call_client.specs.Talks.{IsCalledBy, IsCalledTo, asking};
+ghost use Rattle.call_client.specs.Talks.{IsCalledBy, IsCalledTo, asking, misses};
 
 use crate::object_calls::calling::call_at;
 use crate::object_calls::dial::Dial;
@@ -103,6 +103,16 @@ fn call_to<D: Dial>(
     )
 }
 
+/// Whether no connection could be made, so that the next profile is tried.
+fn is_missed(fault: CallFault) -> bool
+    ensures { result ≡ misses fault }
+{
+    match fault {
+        CallFault::NotReached => true,
+        _ => false,
+    }
+}
+
 /// Calls the object that a reference names, by its first profile of IIOP whose host and port can be
 /// reached. The request is sent with a target that names the object of this profile in a form. So many
 /// reads may give octets. The profiles are those of the reference, as `list_reference` lists them; for
@@ -134,7 +144,7 @@ pub fn call_by<D: Dial>(
                     giop, alloc, dial, ior, place, profile, form, request, body, reads,
                 ) {
                     Ok(answer) => return Ok(answer),
-                    Err(CallFault::NotReached) => (),
+                    Err(fault) if is_missed(fault) => (),
                     Err(fault) => return Err(fault),
                 }
             }

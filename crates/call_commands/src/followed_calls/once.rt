@@ -16,6 +16,7 @@ use call_client::object_calls::{Dial, Form, call_by};
 use call_client::{Answer, CallFault, Request};
 use command_texts::call_texts::{Outcome, read_outcome};
 use giop::{Body, Giop, Reply};
+use giop_messages::GiopFault;
 use reference_listing::list_reference;
 use reference_texts::Ior;
 use std::alloc::Global;
@@ -73,7 +74,7 @@ fn call_once<D: Dial>(
 {
     let listing = match list_reference(giop.types(), alloc, ior) {
         Ok(listing) => listing,
-        Err(_) => return Err(CallFault::NoMemory),
+        Err(_) => return Err(CallFault::NotARequest(GiopFault::NoMemory)),
     };
     let called = match call_by(
         giop,
