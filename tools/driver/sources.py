@@ -36,19 +36,19 @@ def source_folder(crate):
 
 @functools.cache
 def offered(crate):
-    """What a library offers by its root: pairs of a file and a name in it."""
+    """What a library offers by its root and its public modules: pairs of a file and a name in it."""
     root = source_folder(crate) / "lib.rt"
     if not root.is_file():
         return set()
-    text = root.read_text()
-    paths = [root, *(root.with_name(f"{name}.rt") for name in re.findall(r"^pub mod (\w+);", text, re.MULTILINE))]
-    found = set()
-    for path in paths:
-        names = re.findall(r"^pub (?:const )?(?:struct|enum|trait|fn) (\w+)", path.read_text(), re.MULTILINE)
+    found, paths = set(), [(root, root.parent)]
+    for path, folder in paths:
+        text = path.read_text()
+        paths += [(folder / f"{name}.rt", folder / name) for name in re.findall(r"^pub mod (\w+);", text, re.MULTILINE)]
+        names = re.findall(r"^pub (?:const )?(?:struct|enum|trait|fn) (\w+)", text, re.MULTILINE)
         found.update((path, name) for name in names)
-    for module, names in re.findall(r"^pub use ([\w:]+)::(\w+|\{[^}]*\});", text, re.MULTILINE):
-        path = root.parent / (module.replace("::", "/") + ".rt")
-        found.update((path, name) for name in re.findall(r"\w+", names))
+        for module, names in re.findall(r"^pub use ([\w:]+)::(\w+|\{[^}]*\});", text, re.MULTILINE):
+            file = folder / (module.replace("::", "/") + ".rt")
+            found.update((file, name) for name in re.findall(r"\w+", names))
     return found
 
 
