@@ -50,7 +50,10 @@ fn parts_of<'a>(
     ensures made { IfOk result (λ parts. AreOf table.now.model word.now (objects_of parts.0.items) parts.1) }
     ensures refused { IfErr result (IsObjectFault table.now.model word.now) }
 {
-    let (key, place) = object_of(table, word)?;
+    let (key, place) = match object_of(table, word) {
+        Ok(object) => object,
+        Err(fault) => return Err(fault),
+    };
     let objects = lone_object(alloc, key, place)?;
     let keeper = Keeper::new(alloc, table, objects.as_slice())?;
     let giop = Giop::new(alloc)?;
@@ -66,6 +69,8 @@ pub(crate) fn broker_of<'a>(
     ensures made { IfOk result (IsBrokerOf table.model word.now) }
     ensures refused { IfErr result (IsObjectFault table.model word.now) }
 {
-    let (objects, keeper, giop) = parts_of(alloc, &table, word)?;
-    Ok(Broker::new(alloc, giop, table, objects, keeper))
+    match parts_of(alloc, &table, word) {
+        Ok((objects, keeper, giop)) => Ok(Broker::new(alloc, giop, table, objects, keeper)),
+        Err(fault) => Err(fault),
+    }
 }

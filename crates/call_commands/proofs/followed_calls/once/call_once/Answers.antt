@@ -6,7 +6,7 @@ use Rattle.reference_listing.specs.Listings.{AreRows, rows_of}
 use Rattle.call_client.specs.Talks.{asking}
 use Rattle.call_commands.specs.Hops.{in_form}
 use Rattle.call_commands.specs.Wanted.{called_of}
-use Rattle.call_commands.proofs.Hops.{answered, sent, unanswered}
+use Rattle.call_commands.proofs.Hops.{answered, sent, unanswered, undone}
 use Rattle.call_commands.proofs.followed_calls.once.call_once.Goals as goal
 
 pub returns-in-Some : goal.returns-in-Some
@@ -38,3 +38,9 @@ returns-in-Err-call_by g c =
     c.in-Err-call_by.fault
     (subst (λ (ps : List ListedProfile). AreRows (reference_of c.args.ior.now).profiles (rows_of ps))
     (sym c.as_slice.ensures.value) c.in-Ok.ensures.rows_are) c.in-Err-call_by.ensures
+
+pub returns-in-Err : goal.returns-in-Err
+returns-in-Err g c =
+    undone (g.D.Dial.went c.args.dial.now)
+    (in_form c.args.form (asking c.args.request.now (given_by c.args.body) c.args.reads)) (called_of c.args.wanted.now)
+    (reference_of c.args.ior.now) (g.D.Dial.lines c.args.dial.now)
