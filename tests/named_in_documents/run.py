@@ -1,4 +1,4 @@
-"""Looks up the files, and the functions of walks, that the documents name.
+"""Looks up the files, and the functions of walks, that the documents name, and the groups of the crates.
 
 A file with a folder stands in the crate that was named before it on its line, in the repository, or beside the document;
 one without may be anywhere. The walks of docs/ARCHITECTURE.md are lines `CRATE::MODULE::FUNCTION, ..  what it does`.
@@ -80,8 +80,31 @@ def is_function(crate, module, name):
     return any(re.search(rf"\bfn {name}\b", file.read_text()) for file in files if module in ("", *file.parts, file.stem))
 
 
+def listed_groups():
+    """The groups of crates.txt with their crates, in order."""
+    groups = {}
+    for line in (TOP / "crates.txt").read_text().splitlines()[1:]:
+        if line.startswith("# "):
+            names = groups.setdefault(line[2:].lower(), [])
+        elif ":" in line:
+            names.append(line.partition(":")[0].split()[0])
+    return groups
+
+
+def add_groups(count):
+    """README.md and docs/ARCHITECTURE.md have the same groups in the same order; the rows of the crates follow it."""
+    groups = listed_groups()
+    for document in (TOP / "README.md", TOP / "docs" / "ARCHITECTURE.md"):
+        rows = [[cell.strip() for cell in line.split("|")[1:-1]] for line in document.read_text().splitlines() if line.startswith("|")]
+        found = {row[0]: row[-1].split(", ") for row in rows if row[0] in groups}
+        count.add(list(found.items()) == list(groups.items()), f"{document.relative_to(TOP)}: the groups aren't those of crates.txt")
+    names = [name for crates in groups.values() for name in crates]
+    count.add([row[0] for row in rows if row[0] in names] == names, "docs/ARCHITECTURE.md: the crates aren't in the order of crates.txt")
+
+
 def run(test):
     count = Count(0, [])
+    add_groups(count)
     add_files(count)
     add_words(count)
     for crate, module, name in steps((TOP / "docs" / "ARCHITECTURE.md").read_text(), listed_crates()):
