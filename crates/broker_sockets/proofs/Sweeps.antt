@@ -1,5 +1,5 @@
 -- How a sweep goes on.
-use Rattle.std.proofs.Common.{◌≡◌, ◌∙◌, inl, inr, ℕ, zero, suc, ◌+◌, ◌<◌, ◌≤◌, true, List, [], ◌∷◌, ◌++◌, length, map, take, drop, nat_lt, Bool, false, if◌then◌else◌, slice_set, slice_index_or, refl, sym, ap, subst, append_assoc, append-nil, arith}
+use Rattle.std.proofs.Common.{◌≡◌, ◌∙◌, inl, inr, ℕ, zero, suc, ◌+◌, ◌<◌, ◌≤◌, true, List, [], ◌∷◌, ◌++◌, length, map, take, drop, nat_lt, Bool, false, slice_set, slice_index_or, refl, sym, ap, subst, append_assoc, arith, if◌then◌else◌}
 use Rattle.std.specs.List.{All}
 use Rattle.std.proofs.lemmas.List.Elements.{All-nil, All-cons, All-head, All-tail, All-append}
 use Rattle.broker_sockets.specs.declared.partings.parting.Limits.{Limits}
@@ -145,18 +145,6 @@ module _ (limits : Limits) where
     none_behind [] (x ∷ back) le = absurd (omega (arith, le))
     none_behind (y ∷ done) back le = none_behind done back (omega (arith, le))
 
-    pub far_at_last : (before : List Parted) (now : List P) (at : ℕ) → IsFar parted limits before now at
-        → length now ≤ at
-        → HaveGone limits before (map parted now)
-    far_at_last before now at far le =
-        let none = none_behind far.done far.back
-        (subst (λ (n : ℕ). length (far.done ++ far.back) ≤ n) far.at_is
-        (subst (λ (l : List P). length l ≤ at) far.now_is le)) in
-        let before_is = far.before_is ∙ ap (λ (l : List P). far.front ++ map parted l) none ∙ append-nil far.front in
-        let now_is = far.now_is ∙ ap (λ (l : List P). far.done ++ l) none ∙ append-nil far.done in
-        subst (λ (b : List Parted). HaveGone limits b (map parted now)) (sym before_is)
-        (subst (λ (l : List P). HaveGone limits far.front (map parted l)) (sym now_is) far.gone)
-
     pub stayed_at : (items : List P) (at : ℕ) (s t : P) → at < length items → s ≡ slice_index_or items at s
         → IsRead (parted s) (parted t) → All (λ one. (parted one).shut ≡ true) items
         → HasStayed parted items at (slice_set items at t)
@@ -228,9 +216,6 @@ all_dropped P (x ∷ xs) all = All-tail P x xs all
 all_chosen : {A : Type 0} (P : A → Type 0) (b : Bool) (xs : List A) → All P xs → All P (if b then xs else drop 1 xs)
 all_chosen P true xs all = all
 all_chosen P false xs all = all_dropped P xs all
-
-pub all_room : {A : Type 0} (P : A → Type 0) (xs : List A) → All P xs → All P (with_room xs)
-all_room P xs all = all_chosen P (nat_lt (length xs) 64) xs all
 
 -- what one tells that was added
 pub taken_of : {P : Type 0} (parted : P → Parted) (left : Parted) (before : List P) (one : P) (after : List P)

@@ -76,8 +76,9 @@ IsHeardOrNothing port listened old new Unwritten = listened ≡ Some port
 IsHeardOrNothing port listened old new fault =
     (Appends old new (serving port) × (listened ≡ Some port)) ⊎ Keeps old new
 
--- The line isn't printed: the port isn't listened on; or printing failed.
+-- The line isn't printed: the port isn't listened on, or memory is wanted for it; or printing failed.
 abbrev pub IsUnprinted : ℕ → Option ℕ → Option (List ℕ) → Option (List ℕ) → ServeFault → Type 0
 IsUnprinted port listened old new Unwritten = listened ≡ Some port
 IsUnprinted port listened old new Socket = Keeps old new
+IsUnprinted port listened old new NoMemory = Keeps old new
 IsUnprinted port listened old new fault = ⊥

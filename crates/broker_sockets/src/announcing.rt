@@ -20,12 +20,11 @@ pub fn serving_line(alloc: Global, port: u16) -> Result<String, AllocError>
 
 /// Listens, and says so by that line.
 pub(crate) fn announce<'a, L: Listener, W: Write>(
+    alloc: Global,
     listener: &mut L,
     out: &mut W,
     port: u16,
-    line: &str,
 ) -> Result<(), ServeFault<'a>>
-    requires { line.now ≡ serving port }
     ensures came { L.came listener.new ≡ L.came listener.old }
     ensures keeps { L.keeps listener.old listener.new }
     ensures listens { OnOk result (L.port listener.new ≡ Some port) }
@@ -34,6 +33,7 @@ pub(crate) fn announce<'a, L: Listener, W: Write>(
         (IsUnprinted port (L.port listener.new) (W.contents out.old) (W.contents out.new)) }
 {
     listener.listen(port)?;
+    let line = serving_line(alloc, port)?;
     if out.write_all(line.as_bytes()).is_err() || out.flush().is_err() {
         return Err(ServeFault::Unwritten);
     }

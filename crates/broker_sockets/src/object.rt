@@ -50,10 +50,7 @@ fn parts_of<'a>(
     ensures made { IfOk result (λ parts. AreOf table.now.model word.now (objects_of parts.0.items) parts.1) }
     ensures refused { IfErr result (IsObjectFault table.now.model word.now) }
 {
-    let (key, place) = match object_of(table, word) {
-        Ok(object) => object,
-        Err(fault) => return Err(fault),
-    };
+    let (key, place) = object_of(table, word)?;
     let objects = lone_object(alloc, key, place)?;
     let keeper = Keeper::new(alloc, table, objects.as_slice())?;
     let giop = Giop::new(alloc)?;
@@ -69,8 +66,6 @@ pub(crate) fn broker_of<'a>(
     ensures made { IfOk result (IsBrokerOf table.model word.now) }
     ensures refused { IfErr result (IsObjectFault table.model word.now) }
 {
-    match parts_of(alloc, &table, word) {
-        Ok((objects, keeper, giop)) => Ok(Broker::new(alloc, giop, table, objects, keeper)),
-        Err(fault) => Err(fault),
-    }
+    let (objects, keeper, giop) = parts_of(alloc, &table, word)?;
+    Ok(Broker::new(alloc, giop, table, objects, keeper))
 }

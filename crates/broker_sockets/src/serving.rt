@@ -7,7 +7,7 @@ ghost use Rattle.broker_sockets.specs.Lines.{serving};
 ghost use Rattle.broker_sockets.specs.Serving.{IsDone, IsDoneTogether, IsFaultOf, IsHeardOrNothing, IsLineOrNothing, IsOfObject, IsServed, places_of};
 ghost use Rattle.broker_sockets.specs.Visits.{AreServed, untold};
 
-use crate::announcing::{announce, serving_line};
+use crate::announcing::announce;
 use crate::connections::serve_connections;
 use crate::fault::ServeFault;
 use crate::listener::BlockingListener;
@@ -46,8 +46,7 @@ fn serve_by<'a, S: Servant, L: BlockingListener, W: Write>(
         (IsHeardOrNothing options.now.port (L.port listener.new) (W.contents out.old) (W.contents out.new)) }
     ensures later { IfErr result (λ fault. IsOfObject fault → ⊥) }
 {
-    let line = serving_line(alloc, options.port)?;
-    announce(listener, out, options.port, line.as_str())?;
+    announce(alloc, listener, out, options.port)?;
     serve_connections(broker, listener, options.connections)?;
     Ok(())
 }
@@ -80,10 +79,7 @@ pub fn serve_at<'a, L: BlockingListener, W: Write>(
     ensures silent { IfErr result (λ fault. IsOfObject fault → out.new ≡ out.old) }
     ensures deaf { IfErr result (λ fault. IsOfObject fault → listener.new ≡ listener.old) }
 {
-    let mut broker = match broker_of(alloc, table, options.object) {
-        Ok(broker) => broker,
-        Err(fault) => return Err(fault),
-    };
+    let mut broker = broker_of(alloc, table, options.object)?;
     serve_by(alloc, &mut broker, listener, out, options)
 }
 
@@ -107,10 +103,8 @@ fn serve_in_turn<'a, R: Net + Clock + Eprint + AllocGlobal, W: Write>(
     ensures silent { IfErr result (λ fault. IsOfObject fault → out.new ≡ out.old) }
 {
     let mut loopback = Loopback::new(rt);
-    match serve_at(rt.alloc(), &mut loopback, out, table, options) {
-        Ok(()) => Ok(loopback.totals().of(options.connections)),
-        Err(fault) => Err(fault),
-    }
+    serve_at(rt.alloc(), &mut loopback, out, table, options)?;
+    Ok(loopback.totals().of(options.connections))
 }
 
 /// At most so many of them at the same time.
@@ -132,14 +126,9 @@ fn serve_many<'a, R: Net + Clock + Eprint + AllocGlobal, W: Write>(
     ensures printing { IfErr result (IsLineOrNothing options.now.port (W.contents out.old) (W.contents out.new)) }
     ensures silent { IfErr result (λ fault. IsOfObject fault → out.new ≡ out.old) }
 {
-    let mut loopback = match PolledLoopback::new(rt, rt.alloc()) {
-        Ok(loopback) => loopback,
-        Err(_) => return Err(ServeFault::NoMemory),
-    };
-    match serve_many_at(rt.alloc(), &mut loopback, out, table, options, at_once) {
-        Ok(()) => Ok(loopback.finish().of(options.connections)),
-        Err(fault) => Err(fault),
-    }
+    let mut loopback = PolledLoopback::new(rt, rt.alloc())?;
+    serve_many_at(rt.alloc(), &mut loopback, out, table, options, at_once)?;
+    Ok(loopback.finish().of(options.connections))
 }
 
 /// How many are served at the same time at most. With calls that wait, one that is idle can't end.

@@ -7,7 +7,7 @@ ghost use Rattle.broker_loop.specs.Visits.{AreServedBy};
 ghost use Rattle.broker_sockets.specs.Lines.{serving};
 ghost use Rattle.broker_sockets.specs.Serving.{IsDoneTogether, IsFaultOf, IsHeardOrNothing, IsLineOrNothing, IsOfObject};
 
-use crate::announcing::{announce, serving_line};
+use crate::announcing::announce;
 use crate::fault::ServeFault;
 use crate::object::broker_of;
 use crate::options::ServeOptions;
@@ -58,8 +58,7 @@ fn serve_by<'a, S: Servant, L: PolledListener, W: Write>(
         (IsHeardOrNothing options.now.port (L.port listener.new) (W.contents out.old) (W.contents out.new)) }
     ensures later { IfErr result (λ fault. IsOfObject fault → ⊥) }
 {
-    let line = serving_line(alloc, options.port)?;
-    announce(listener, out, options.port, line.as_str())?;
+    announce(alloc, listener, out, options.port)?;
     serve_at_once(alloc, broker, listener, options.connections, places, idle)?;
     Ok(())
 }
@@ -98,10 +97,7 @@ pub fn serve_many_at<'a, L: PolledListener, W: Write>(
     ensures silent { IfErr result (λ fault. IsOfObject fault → out.new ≡ out.old) }
     ensures deaf { IfErr result (λ fault. IsOfObject fault → listener.new ≡ listener.old) }
 {
-    let mut broker = match broker_of(alloc, table, options.object) {
-        Ok(broker) => broker,
-        Err(fault) => return Err(fault),
-    };
+    let mut broker = broker_of(alloc, table, options.object)?;
     let idle = u64::from(options.idle) * 1000;
     serve_by(
         alloc,

@@ -7,7 +7,7 @@ ghost use Rattle.command_tables.specs.declared.refusal.Refusal.TheVariants.{NoMe
 
 use command_tables::Refusal;
 use command_texts::TextRefusal;
-use idl_compiler::CompileRefusal;
+use idl_compiler::CompileFault;
 use std::alloc::AllocError;
 use thiserror::Error;
 use value_text::Refusal as TextFault;
@@ -23,7 +23,7 @@ pub enum NamedFault<'a> {
     Unsaid(TextFault),
     /// The IDL file has no table.
     #[error(transparent)]
-    NotCompiled(CompileRefusal),
+    NotCompiled(CompileFault),
 }
 
 impl<'a> From<AllocError> for NamedFault<'a> {
@@ -53,12 +53,12 @@ impl<'a> From<TextRefusal<'a>> for NamedFault<'a> {
     }
 }
 
-impl<'a> From<CompileRefusal> for NamedFault<'a> {
+impl<'a> From<CompileFault> for NamedFault<'a> {
     ghost from_gives = { λ refusal fault. fault ≡ fault_of_source refusal };
 
-    fn from(refusal: CompileRefusal) -> NamedFault<'a> {
+    fn from(refusal: CompileFault) -> NamedFault<'a> {
         match refusal {
-            CompileRefusal::NoMemory => NamedFault::Refused(Refusal::NoMemory),
+            CompileFault::NoMemory => NamedFault::Refused(Refusal::NoMemory),
             refusal => NamedFault::NotCompiled(refusal),
         }
     }

@@ -13,6 +13,7 @@ ghost use Rattle.idl_tree.specs.DefinitionDescent.{is_ahead, is_over};
 ghost use Rattle.definition_reader.specs.inner.Following.{Ends};
 ghost use Rattle.definition_reader.specs.inner.Reading.{Parsed};
 ghost use Rattle.definition_reader.specs.Specification.{IsNext};
+ghost use Rattle.definition_reader.specs.declared.stop.Stop.TheVariants.{TooDeep};
 ghost use Rattle.idl_tree.specs.Pieces.{piece, keyword, kept, kind_code, mark, touching, leaf as leaf_yield, seen_from};
 ghost use Rattle.idl_tree.specs.Yields.{identifier as identifier_yield};
 
@@ -332,10 +333,12 @@ impl<'a, 't> Cursor<'a, 't> {
 pub(crate) fn inside(room: usize, opening: &Leaf<'_>) -> Result<usize, Stop>
     ensures levels { IfOk result (λ left. suc left ≡ room) }
     ensures none { IfErr result (λ _. room ≡ 0) }
+    ensures told { IfErr result (λ stop. stop ≡ TooDeep opening.now.number opening.now.token.line) }
 {
     match room.checked_sub(1) {
         Some(left) => Ok(left),
         None => Err(Stop::TooDeep {
+            at: opening.number,
             line: opening.token.line as usize,
         }),
     }

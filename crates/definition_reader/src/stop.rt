@@ -4,8 +4,8 @@
 pub enum Stop {
     /// The next token can't stand where it does.
     Unexpected,
-    /// A level too many is opened on this line.
-    TooDeep { line: usize },
+    /// The token of this number, counted from 0, opens a level too many.
+    TooDeep { at: usize, line: usize },
     /// Memory was refused.
     NoMemory,
 }

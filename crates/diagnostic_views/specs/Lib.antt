@@ -1,6 +1,5 @@
 -- Which faults a person is told of.
 pub mod AllNames
-pub mod AllTypes
 pub mod Shown
 pub mod Windows
 pub mod MarkerViews

@@ -1,12 +1,15 @@
 //! All faults of a text's names.
 
-ghost use Rattle.std.specs.Prelude.{IfErr, IfOk};
+ghost use Rattle.std.specs.Prelude.{◌≡◌, ◌≤◌, ◌⊎◌, List, IfErr, IfOk};
 ghost use Rattle.diagnostic_views.specs.AllNames.{AreFaultsIn, AreFirstOf};
-ghost use Rattle.idl_compiler.specs.Refused.{IsRefused};
+ghost use Rattle.idl_parser.specs.declared.fault.ParseFault.TheVariants.{NoMemory};
+ghost use Rattle.idl_tree.specs.declared.definitions.Definition.{Definition};
+ghost use Rattle.idl_tree.specs.Pieces.{Spell};
+ghost use Rattle.idl_tree.specs.DefinitionYields.{definitions_spelled};
+ghost use Rattle.idl_tree.specs.DefinitionLevels.{levels_of};
 
-use idl_compiler::CompileFault;
-use idl_lexer::lex;
-use idl_parser::parse;
+use idl_lexer::Token;
+use idl_parser::{ParseFault, parse};
 use idl_tree::spec::Spec;
 use scoped_names::{NameFaults, name_faults};
 use std::alloc::{AllocError, Global};
@@ -42,15 +45,20 @@ fn faults_of<T: HasNames + Drop>(
     whole.faults(alloc, most)
 }
 
-/// All faults of a text's names: the first of them, so many at most, and how many there are.
+/// All faults of the names of a text with these tokens: the first of them, so many at most, and how
+/// many there are.
 ///
 /// # Errors
-/// Why the text has no names: a fault of its tokens or of its grammar. Want of memory.
-pub fn name_faults_in(alloc: Global, text: &str, most: usize) -> Result<NameFaults, CompileFault>
-    ensures found { IfOk result (AreFaultsIn text.now most) }
-    ensures refused { IfErr result (IsRefused text.now) }
+/// Why the tokens are no specification. Want of memory.
+pub fn name_faults_in(
+    alloc: Global,
+    tokens: &[Token<'_>],
+    most: usize,
+) -> Result<NameFaults, ParseFault>
+    ensures found { IfOk result (AreFaultsIn tokens.now most) }
+    ensures refused { IfErr result (λ fault. (fault ≡ NoMemory) ⊎ ((definitions : List Definition)
+        → Spell (definitions_spelled definitions) tokens.now → levels_of definitions ≤ 64 → ⊥)) }
 {
-    let tokens = lex(alloc, text)?;
-    let spec = parse(alloc, &tokens)?;
+    let spec = parse(alloc, tokens)?;
     Ok(faults_of(alloc, spec, most)?)
 }

@@ -1,28 +1,17 @@
 //! What is known of a fault.
 
 use crate::all_names::name_faults_in;
-use crate::all_types::type_faults_in;
 use crate::grammar::of_grammar;
 use crate::names::of_names;
 use crate::tokens::of_tokens;
 use crate::types::of_types;
-use idl_compiler::{CompileFault, compile};
+use idl_compiler::CompileFault;
 use idl_lexer::{Token, lex};
-use idl_parser::ParseFault;
 use model_builder::TypeFault;
 use scoped_names::NameFaults;
 use std::alloc::{AllocError, Global};
 use std::str;
-use type_faults::TypeFaults;
-
-/// Where something stands in a source.
-#[derive(Clone, Copy, Debug, PartialEq, Eq)]
-pub enum Spot {
-    /// At the octet.
-    Octet(usize),
-    /// Somewhere in the line, counted from 1.
-    Line(usize),
-}
+use type_faults::{TypeFaults, type_faults};
 
 /// What else stands somewhere.
 #[derive(Clone, Copy, Debug)]
@@ -39,25 +28,37 @@ const MOST: usize = 20;
 pub struct Known {
     /// The number of the refusal.
     pub number: u8,
-    pub spot: Spot,
+    /// Where it stands in the source.
+    pub octet: usize,
     /// A sentence without its full stop.
     pub sentence: String,
     /// The first of two things that clash.
     pub first: Option<Note>,
-    /// The second of two, neither of which stands at the spot.
+    /// The second of two, neither of which stands at the octet.
     pub second: Option<Note>,
 }
 
 impl Known {
-    /// A fault of which no other place is known.
-    pub(crate) fn alone(number: u8, spot: Spot, sentence: String) -> Known {
-        Known {
-            number,
-            spot,
+    /// A fault at an octet, with the two things that clash, where they are known; None of what has no
+    /// number.
+    pub(crate) fn new(
+        fault: CompileFault,
+        octet: usize,
+        sentence: String,
+        (first, second): (Option<Note>, Option<Note>),
+    ) -> Option<Known> {
+        Some(Known {
+            number: fault.number()?,
+            octet,
             sentence,
-            first: None,
-            second: None,
-        }
+            first,
+            second,
+        })
+    }
+
+    /// The same, of which no other place is known.
+    pub(crate) fn alone(fault: CompileFault, octet: usize, sentence: String) -> Option<Known> {
+        Known::new(fault, octet, sentence, (None, None))
     }
 }
 
@@ -78,7 +79,7 @@ impl AllKnown {
     /// definition: once is enough.
     fn add(&mut self, known: Known) -> Result<(), AllocError> {
         let is_told = match self.known.last() {
-            Some(last) => last.number == known.number && last.spot == known.spot,
+            Some(last) => last.number == known.number && last.octet == known.octet,
             None => false,
         };
         if is_told {
@@ -103,20 +104,6 @@ fn only(alloc: Global, known: Option<Known>) -> Result<AllKnown, AllocError> {
     Ok(all)
 }
 
-/// The octet at which a source isn't UTF-8 any more.
-fn not_text(alloc: Global, octet: usize) -> Result<Known, AllocError> {
-    let sentence = String::from_str(alloc, "the file isn't UTF-8 from here on")?;
-    Ok(Known::alone(1, Spot::Octet(octet), sentence))
-}
-
-/// What is known of a fault of the grammar.
-fn of_parse(alloc: Global, text: &str, fault: &ParseFault) -> Result<AllKnown, AllocError> {
-    let Ok(tokens) = lex(alloc, text) else {
-        return only(alloc, None);
-    };
-    only(alloc, of_grammar(alloc, &tokens, fault)?)
-}
-
 /// What is known of faults of names.
 fn of_faults(
     alloc: Global,
@@ -129,20 +116,17 @@ fn of_faults(
         is_all: true,
     };
     for fault in faults.first.as_slice() {
-        if let Some(known) = of_names(alloc, tokens, fault)? {
+        if let Some(known) = of_names(alloc, tokens, *fault)? {
             all.add(known)?;
         }
     }
     Ok(all)
 }
 
-/// What is known of the faults of a text's names.
-fn of_all_names(alloc: Global, text: &str) -> Result<AllKnown, AllocError> {
-    let Ok(tokens) = lex(alloc, text) else {
-        return only(alloc, None);
-    };
-    match name_faults_in(alloc, text, MOST) {
-        Ok(faults) => of_faults(alloc, &tokens, &faults),
+/// What is known of the faults of the names of a file's tokens.
+fn of_all_names(alloc: Global, tokens: &[Token<'_>]) -> Result<AllKnown, AllocError> {
+    match name_faults_in(alloc, tokens, MOST) {
+        Ok(faults) => of_faults(alloc, tokens, &faults),
         Err(_) => only(alloc, None),
     }
 }
@@ -160,40 +144,63 @@ fn of_each_type(
         is_all: faults.is_all,
     };
     for fault in found.iter().take(MOST) {
-        all.add(of_types(alloc, tokens, fault)?)?;
+        if let Some(known) = of_types(alloc, tokens, *fault)? {
+            all.add(known)?;
+        }
     }
     Ok(all)
 }
 
-/// What is known of the faults of a text's types. The first is told alone where no part of the text
-/// is refused: one of a type that holds itself, or of a path.
-fn of_all_types(alloc: Global, text: &str, first: &TypeFault) -> Result<AllKnown, AllocError> {
-    let Ok(tokens) = lex(alloc, text) else {
-        return only(alloc, None);
-    };
-    match type_faults_in(alloc, text, MOST + 1) {
-        Ok(faults) if !faults.first.is_empty() => of_each_type(alloc, &tokens, &faults),
-        _ => only(alloc, Some(of_types(alloc, &tokens, first)?)),
+/// What is known of the faults of the types of a file's tokens. The first is told alone where no part
+/// of the file is refused: one of a type that holds itself, or of a path.
+fn of_all_types(
+    alloc: Global,
+    tokens: &[Token<'_>],
+    first: TypeFault,
+) -> Result<AllKnown, AllocError> {
+    let faults = type_faults(alloc, tokens, MOST + 1)?;
+    if faults.first.is_empty() {
+        only(alloc, of_types(alloc, tokens, first)?)
+    } else {
+        of_each_type(alloc, tokens, &faults)
     }
 }
 
-/// What is known of the faults of an IDL file; None where it has none. Of one that wants memory
-/// nothing is known.
-pub fn known_of(alloc: Global, source: &[u8]) -> Result<Option<AllKnown>, AllocError> {
-    let text = match str::from_utf8(source) {
-        Ok(text) => text,
-        Err(error) => {
-            let known = not_text(alloc, error.valid_up_to())?;
-            return Ok(Some(only(alloc, Some(known))?));
-        }
+/// The tokens of a file; None where it has none.
+fn tokens_of(alloc: Global, source: &[u8]) -> Option<Vec<Token<'_>>> {
+    let Ok(text) = str::from_utf8(source) else {
+        return None;
     };
-    let all = match compile(alloc, text) {
-        Ok(_) => return Ok(None),
-        Err(CompileFault::Tokens(fault)) => only(alloc, of_tokens(alloc, text, fault)?)?,
-        Err(CompileFault::Names(_)) => of_all_names(alloc, text)?,
-        Err(CompileFault::Grammar(fault)) => of_parse(alloc, text, &fault)?,
-        Err(CompileFault::Types(fault)) => of_all_types(alloc, text, &fault)?,
-        Err(CompileFault::NoMemory) => only(alloc, None)?,
-    };
-    Ok(Some(all))
+    lex(alloc, text).ok()
+}
+
+/// What is known of a fault of a file with these tokens.
+fn of_tree(
+    alloc: Global,
+    tokens: &[Token<'_>],
+    fault: &CompileFault,
+) -> Result<AllKnown, AllocError> {
+    match fault {
+        CompileFault::Grammar(fault) => only(alloc, of_grammar(alloc, tokens, *fault)?),
+        CompileFault::Names(_) => of_all_names(alloc, tokens),
+        CompileFault::Types(fault) => of_all_types(alloc, tokens, *fault),
+        _ => only(alloc, None),
+    }
+}
+
+/// What is known of the faults of a file, of which this is the first: of all that its names or its
+/// types have, or of it alone. Of what has no number nothing is known.
+pub fn known_of(
+    alloc: Global,
+    source: &[u8],
+    fault: &CompileFault,
+) -> Result<AllKnown, AllocError> {
+    match fault {
+        CompileFault::Tokens(fault) => only(alloc, of_tokens(alloc, source, *fault)?),
+        CompileFault::TooLong | CompileFault::NoMemory => only(alloc, None),
+        fault => match tokens_of(alloc, source) {
+            Some(tokens) => of_tree(alloc, &tokens, fault),
+            None => only(alloc, None),
+        },
+    }
 }

@@ -1,7 +1,8 @@
 //! Faults of the grammar.
 
-use crate::facts::{Known, Spot};
+use crate::facts::Known;
 use crate::words::text_at;
+use idl_compiler::CompileFault;
 use idl_lexer::Token;
 use idl_parser::ParseFault;
 use std::alloc::{AllocError, Global};
@@ -17,48 +18,27 @@ pub(crate) fn octet_at(tokens: &[Token<'_>], number: usize) -> usize {
     }
 }
 
-/// The first token of the line with the text.
-fn on_line(tokens: &[Token<'_>], line: usize, text: &str) -> Spot {
-    for token in tokens {
-        if token.line as usize == line && token.text == text {
-            return Spot::Octet(token.start);
-        }
-    }
-    Spot::Line(line)
-}
-
-fn last_spot(tokens: &[Token<'_>], line: usize) -> Spot {
-    match tokens.last() {
-        Some(token) => Spot::Octet(token.start),
-        None => Spot::Line(line),
-    }
-}
-
 /// What is known of the fault.
 pub(crate) fn of_grammar(
     alloc: Global,
     tokens: &[Token<'_>],
-    fault: &ParseFault,
+    fault: ParseFault,
 ) -> Result<Option<Known>, AllocError> {
-    let (number, spot, sentence) = match *fault {
+    let (at, sentence) = match fault {
         ParseFault::Unexpected { at, .. } => (
-            10,
-            Spot::Octet(octet_at(tokens, at)),
+            at,
             format!(in alloc; "'{}' can't stand here", text_at(tokens, at))?,
         ),
-        ParseFault::EndOfFile { line } => (
-            11,
-            last_spot(tokens, line),
+        ParseFault::EndOfFile { .. } => (
+            tokens.len().saturating_sub(1),
             String::from_str(alloc, "the file ends behind this, inside a definition")?,
         ),
-        ParseFault::LeftOut { what, line } => (
-            12,
-            on_line(tokens, line, what),
+        ParseFault::LeftOut { what, at, .. } => (
+            at,
             format!(in alloc; "'{what}' isn't served by this profile")?,
         ),
-        ParseFault::TooDeep { line } => (
-            13,
-            Spot::Line(line),
+        ParseFault::TooDeep { at, .. } => (
+            at,
             String::from_str(
                 alloc,
                 "more than 64 modules, types and parentheses one inside another",
@@ -66,5 +46,6 @@ pub(crate) fn of_grammar(
         ),
         ParseFault::NoMemory => return Ok(None),
     };
-    Ok(Some(Known::alone(number, spot, sentence)))
+    let fault = CompileFault::Grammar(fault);
+    Ok(Known::alone(fault, octet_at(tokens, at), sentence))
 }

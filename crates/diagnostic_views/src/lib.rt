@@ -3,7 +3,6 @@
 #![tactic(auto)]
 
 mod all_names;
-mod all_types;
 mod facts;
 mod grammar;
 mod lines;
@@ -16,6 +15,5 @@ mod types;
 mod words;
 
 pub use all_names::name_faults_in;
-pub use all_types::type_faults_in;
-pub use facts::{AllKnown, Known, Note, Spot, known_of};
+pub use facts::{AllKnown, Known, Note, known_of};
 pub use lines::{Look, view};

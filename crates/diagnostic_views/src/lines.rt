@@ -1,8 +1,9 @@
 //! The lines that tell of faults.
 
-use crate::facts::{AllKnown, Known, Note, Spot, known_of};
+use crate::facts::{AllKnown, Known, Note, known_of};
 use crate::shown_source::{all_shown, show_line};
-use crate::source_places::{line_start, place_at};
+use crate::source_places::place_at;
+use idl_compiler::CompileFault;
 use std::alloc::{AllocError, Global};
 
 /// The codes by which a terminal writes in another way from there on (ECMA-48, SGR).
@@ -88,7 +89,7 @@ fn push_note(
     lines.push_str(note.what)
 }
 
-/// Adds the place of a fault with its sentence, the line, and the caret where its octet is known.
+/// Adds the place of a fault with its sentence, the line, and the caret.
 fn push_fault(
     lines: &mut String,
     alloc: Global,
@@ -97,25 +98,17 @@ fn push_fault(
     source: &[u8],
     known: &Known,
 ) -> Result<(), AllocError> {
-    let octet = match known.spot {
-        Spot::Octet(octet) => octet,
-        Spot::Line(line) => line_start(source, line).unwrap_or(0),
-    };
+    let octet = known.octet;
     let window = show_line(alloc, source, octet.min(source.len()))?;
     push_code(lines, look, BOLD)?;
     push_place(lines, alloc, file, source, octet)?;
-    if let Spot::Octet(octet) = known.spot {
-        let column = octet.saturating_sub(window.start).saturating_add(1);
-        lines.push_str(format!(in alloc; ":{column}")?.as_str())?;
-    }
+    let column = octet.saturating_sub(window.start).saturating_add(1);
+    lines.push_str(format!(in alloc; ":{column}")?.as_str())?;
     push_code(lines, look, PLAIN)?;
     lines.push_str(": ")?;
     lines.push_str(known.sentence.as_str())?;
     push_line(lines, window.text.as_slice())?;
-    match known.spot {
-        Spot::Octet(_) => push_caret(lines, look, window.caret),
-        Spot::Line(_) => Ok(()),
-    }
+    push_caret(lines, look, window.caret)
 }
 
 /// Adds what says more, where none of those before says it too.
@@ -181,22 +174,22 @@ fn lines_of(
     Ok(lines)
 }
 
-/// What a person is told of the faults of an IDL file, in lines of which the last has no end: of all
-/// faults of its names, 20 at most and how many more there are; or of its types, 20 at most and
-/// whether there are more; or else of its first fault. Each is
+/// What a person is told of the faults of an IDL file, of which the first is at hand, in lines of which
+/// the last has no end: of all faults of its names, 20 at most and how many more there are; or of its
+/// types, 20 at most and whether there are more; or else of its first fault. Each is
 /// `FILE:LINE:COLUMN: ` and a sentence, with file and line as the line markers have them; the line of
-/// the source with a caret; the places of other declarations; and what says more. None where the
-/// file has no fault, or nothing is known of it.
+/// the source with a caret; the places of other declarations; and what says more. None where nothing
+/// is known of the fault.
 pub fn view(
     alloc: Global,
     look: Look,
     file: &str,
     source: &[u8],
+    fault: &CompileFault,
 ) -> Result<Option<String>, AllocError> {
-    match known_of(alloc, source)? {
-        Some(all) if !all.known.is_empty() => {
-            Ok(Some(lines_of(alloc, look, file, source, &all)?))
-        }
-        _ => Ok(None),
+    let all = known_of(alloc, source, fault)?;
+    if all.known.is_empty() {
+        return Ok(None);
     }
+    Ok(Some(lines_of(alloc, look, file, source, &all)?))
 }

@@ -1,8 +1,9 @@
 //! Faults of names, constants and repository ids.
 
-use crate::facts::{Known, Note, Spot};
+use crate::facts::{Known, Note};
 use crate::grammar::octet_at;
 use crate::words::{name_at, text_at};
+use idl_compiler::CompileFault;
 use idl_lexer::Token;
 use idl_tree::names::At;
 use scoped_names::{EntryKind, Flaw, NameFault, Unfit};
@@ -44,16 +45,16 @@ fn unfit_words(why: Unfit) -> &'static str {
     }
 }
 
-/// The number of a fault, and its sentence behind the name.
-fn behind_name(fault: NameFault) -> (u8, &'static str) {
+/// The sentence of a fault behind the name.
+fn behind_name(fault: NameFault) -> &'static str {
     match fault {
-        NameFault::Unknown { .. } => (20, "isn't declared before it"),
-        NameFault::Collides { .. } => (21, "is the name of the scope itself"),
-        NameFault::CaseDiffers { .. } => (22, "is declared in letters of another case"),
-        NameFault::Ambiguous { .. } => (23, "is declared by two bases, each as something else"),
-        NameFault::BadBase { why, .. } => (27, unfit_words(why)),
-        NameFault::PrefixDiffers { .. } => (29, "was declared ahead under another prefix"),
-        _ => (24, "can't stand here"),
+        NameFault::Unknown { .. } => "isn't declared before it",
+        NameFault::Collides { .. } => "is the name of the scope itself",
+        NameFault::CaseDiffers { .. } => "is declared in letters of another case",
+        NameFault::Ambiguous { .. } => "is declared by two bases, each as something else",
+        NameFault::BadBase { why, .. } => unfit_words(why),
+        NameFault::PrefixDiffers { .. } => "was declared ahead under another prefix",
+        _ => "can't stand here",
     }
 }
 
@@ -70,40 +71,31 @@ fn known_twice(
     tokens: &[Token<'_>],
     fault: NameFault,
     name: &str,
-) -> Result<Option<(u8, String)>, AllocError> {
+) -> Result<Option<String>, AllocError> {
     let said = match fault {
         NameFault::Unknown { at } if is_ahead(tokens, at) => {
-            (
-                20,
-                format!(in alloc; "'{name}' is declared ahead and never defined")?,
-            )
+            format!(in alloc; "'{name}' is declared ahead and never defined")?
         }
         NameFault::Collides {
             other: Some(other),
             ..
         } => {
             let other = text_at(tokens, other.token);
-            (
-                21,
-                format!(in alloc; "'{name}' is declared already, as '{other}'")?,
-            )
+            format!(in alloc; "'{name}' is declared already, as '{other}'")?
         }
         NameFault::CaseDiffers {
             other: Some(other),
             ..
         } => {
             let other = text_at(tokens, other.token);
-            (22, format!(in alloc; "'{name}' is declared as '{other}'")?)
+            format!(in alloc; "'{name}' is declared as '{other}'")?
         }
         NameFault::NotAType {
             found: Some(kind),
             ..
         } => {
             let kind = kind_words(kind);
-            (
-                24,
-                format!(in alloc; "'{name}' is {kind}, which can't stand here")?,
-            )
+            format!(in alloc; "'{name}' is {kind}, which can't stand here")?
         }
         _ => return Ok(None),
     };
@@ -111,17 +103,12 @@ fn known_twice(
 }
 
 /// The sentences that don't begin with a name.
-fn own_words(fault: NameFault) -> Option<(u8, &'static str)> {
+fn own_words(fault: NameFault) -> Option<&'static str> {
     match fault {
-        NameFault::IdTwice { .. } => {
-            Some((25, "another pragma gives the name another id or version"))
-        }
-        NameFault::BadConstant { why, .. } => Some((26, flaw_words(why))),
+        NameFault::IdTwice { .. } => Some("another pragma gives the name another id or version"),
+        NameFault::BadConstant { why, .. } => Some(flaw_words(why)),
         NameFault::PrefixInScope { .. } => {
-            Some((
-                28,
-                "a pragma prefix can't stand inside a module or an interface",
-            ))
+            Some("a pragma prefix can't stand inside a module or an interface")
         }
         _ => None,
     }
@@ -132,16 +119,16 @@ fn sentence_of(
     tokens: &[Token<'_>],
     at: At,
     fault: NameFault,
-) -> Result<(u8, String), AllocError> {
-    if let Some((number, words)) = own_words(fault) {
-        return Ok((number, String::from_str(alloc, words)?));
+) -> Result<String, AllocError> {
+    if let Some(words) = own_words(fault) {
+        return String::from_str(alloc, words);
     }
     let name = name_at(alloc, tokens, at.token)?;
     if let Some(said) = known_twice(alloc, tokens, fault, name.as_str())? {
         return Ok(said);
     }
-    let (number, words) = behind_name(fault);
-    Ok((number, format!(in alloc; "'{name}' {words}")?))
+    let words = behind_name(fault);
+    format!(in alloc; "'{name}' {words}")
 }
 
 fn note(tokens: &[Token<'_>], at: Option<At>, what: &'static str) -> Option<Note> {
@@ -175,18 +162,13 @@ fn notes(tokens: &[Token<'_>], fault: NameFault) -> (Option<Note>, Option<Note>)
 pub(crate) fn of_names(
     alloc: Global,
     tokens: &[Token<'_>],
-    fault: &NameFault,
+    fault: NameFault,
 ) -> Result<Option<Known>, AllocError> {
     let Some(at) = fault.at() else {
         return Ok(None);
     };
-    let (number, sentence) = sentence_of(alloc, tokens, at, *fault)?;
-    let (first, second) = notes(tokens, *fault);
-    Ok(Some(Known {
-        number,
-        spot: Spot::Octet(octet_at(tokens, at.token)),
-        sentence,
-        first,
-        second,
-    }))
+    let sentence = sentence_of(alloc, tokens, at, fault)?;
+    let octet = octet_at(tokens, at.token);
+    let notes = notes(tokens, fault);
+    Ok(Known::new(CompileFault::Names(fault), octet, sentence, notes))
 }

@@ -1,8 +1,9 @@
 //! Faults of types.
 
-use crate::facts::{Known, Note, Spot};
+use crate::facts::{Known, Note};
 use crate::grammar::octet_at;
 use crate::words::text_at;
+use idl_compiler::CompileFault;
 use idl_lexer::Token;
 use model_builder::{Answer, LabelWorth, TypeFault, TypeKind};
 use std::alloc::{AllocError, Global};
@@ -95,9 +96,9 @@ fn switch_sentence(alloc: Global, found: Option<TypeKind>) -> Result<String, All
 fn sentence_of(
     alloc: Global,
     tokens: &[Token<'_>],
-    fault: &TypeFault,
+    fault: TypeFault,
 ) -> Result<String, AllocError> {
-    match *fault {
+    match fault {
         TypeFault::SelfHeld { at } => {
             let name = text_at(tokens, at.token);
             format!(in alloc; "by '{name}' the type holds itself without a sequence between")
@@ -126,16 +127,16 @@ fn sentence_of(
     }
 }
 
-/// The number of the token at which the fault is told, and that of the refusal.
-fn told_at(fault: &TypeFault) -> (usize, u8) {
-    match *fault {
-        TypeFault::SelfHeld { at } => (at.token, 30),
-        TypeFault::LabelTwice { at, .. } => (at.token, 31),
-        TypeFault::LabelRange { at, .. } => (at.token, 32),
-        TypeFault::DefaultNeedless { at } => (at.token, 33),
-        TypeFault::BadSwitch { at, .. } => (at.token, 34),
-        TypeFault::Limit { at, .. } => (at.token, 35),
-        TypeFault::BadOneway { at, .. } => (at.token, 36),
+/// The number of the token at which the fault is told.
+fn token_of(fault: TypeFault) -> usize {
+    match fault {
+        TypeFault::SelfHeld { at }
+        | TypeFault::LabelTwice { at, .. }
+        | TypeFault::LabelRange { at, .. }
+        | TypeFault::DefaultNeedless { at }
+        | TypeFault::BadSwitch { at, .. }
+        | TypeFault::Limit { at, .. }
+        | TypeFault::BadOneway { at, .. } => at.token,
     }
 }
 
@@ -143,21 +144,17 @@ fn told_at(fault: &TypeFault) -> (usize, u8) {
 pub(crate) fn of_types(
     alloc: Global,
     tokens: &[Token<'_>],
-    fault: &TypeFault,
-) -> Result<Known, AllocError> {
-    let (token, number) = told_at(fault);
-    let first = match *fault {
+    fault: TypeFault,
+) -> Result<Option<Known>, AllocError> {
+    let sentence = sentence_of(alloc, tokens, fault)?;
+    let octet = octet_at(tokens, token_of(fault));
+    let first = match fault {
         TypeFault::LabelTwice { other, .. } => Some(Note {
             octet: octet_at(tokens, other.token),
             what: "the first of the two",
         }),
         _ => None,
     };
-    Ok(Known {
-        number,
-        spot: Spot::Octet(octet_at(tokens, token)),
-        sentence: sentence_of(alloc, tokens, fault)?,
-        first,
-        second: None,
-    })
+    let fault = CompileFault::Types(fault);
+    Ok(Known::new(fault, octet, sentence, (first, None)))
 }

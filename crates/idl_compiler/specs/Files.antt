@@ -1,9 +1,10 @@
 -- What it means that a table file is right for an IDL file, and why an IDL file has none.
-use Rattle.std.specs.Prelude.{◌≡◌, ◌≢◌, ◌⊎◌, ◌≤◌, ◌<◌, ℕ, List, length}
-use Rattle.std.specs.Str.{IsUtf8}
+use Rattle.std.specs.Prelude.{◌≡◌, ◌⊎◌, ◌≤◌, ◌<◌, ℕ, List, length}
+use Rattle.std.specs.Str.{IsUtf8, IsValidUpTo}
 use Rattle.std.specs.String.{string_bytes}
 use Rattle.idl_compiler.specs.declared.fault.CompileFault.{CompileFault}
-use Rattle.idl_compiler.specs.declared.fault.CompileFault.TheVariants as Compiling
+use Rattle.idl_compiler.specs.declared.fault.CompileFault.TheVariants.{Tokens, TooLong, NoMemory}
+use Rattle.idl_lexer.specs.declared.fault.LexFault.TheVariants.{BadChar}
 use Rattle.idl_compiler.specs.Compiled.{IsCompiled, IsNamedTable}
 use Rattle.idl_compiler.specs.Refused.{HasNoTable, IsRefused}
 use Rattle.position_checker.specs.Acceptance.{IsRight}
@@ -13,8 +14,6 @@ use Rattle.table_file.specs.Table.{TableParts}
 use Rattle.table_file.specs.TableSpelling.{Spells}
 use Rattle.position_checker.specs.Summary.{accepted}
 use Rattle.idl_compiler.specs.declared.file.CompiledFile.{CompiledFile}
-use Rattle.idl_compiler.specs.declared.refusal.CompileRefusal.{CompileRefusal}
-use Rattle.idl_compiler.specs.declared.refusal.CompileRefusal.TheVariants.{Fault, TooLong, NoMemory}
 
 -- The octets spell the table of the definitions that the text's tokens spell, each routine of that table does just what
 -- its node means; it is told how many routines it has, and whether the planned program serves the names.
@@ -40,16 +39,22 @@ abbrev pub IsTooLong : TableParts → Type 0
 IsTooLong table = (octets : List ℕ) → Spells table octets → 16777216 < length octets
 
 -- why a table has no file
-abbrev pub RefusesTable : TableParts → CompileRefusal → Type 0
-RefusesTable table (Fault text) = ⊥
+abbrev pub RefusesTable : TableParts → CompileFault → Type 0
 RefusesTable table TooLong = IsTooLong table
 RefusesTable table NoMemory = Unit {0}
+RefusesTable table fault = ⊥
+
+-- the octets are no text, which is told as a character of line 0, at the octet up to which they are
+pub record IsNoText (source : List ℕ) (fault : CompileFault) : Type 0 where
+  pub none : IsUtf8 source → ⊥
+  pub octet : ℕ
+  pub place : IsValidUpTo source octet
+  pub told : fault ≡ Tokens (BadChar 0 octet)
 
 -- a step refuses the text, and it has no table
-pub record IsRefusedText (source : List ℕ) : Type 0 where
-  pub fault : CompileFault
+pub record IsRefusedText (source : List ℕ) (fault : CompileFault) : Type 0 where
+  pub text : IsUtf8 source
   pub refused : IsRefused source fault
-  pub told : fault ≢ Compiling.NoMemory
   pub none : HasNoTable source
 
 -- the text has a table, which is too long
@@ -58,22 +63,12 @@ pub record HasLongTable (source : List ℕ) : Type 0 where
   pub compiled : IsCompiled source settled
   pub long : IsTooLong settled.table
 
-abbrev pub IsNoText : List ℕ → Type 0
-IsNoText source = IsUtf8 source → ⊥
-
-abbrev pub IsRefusedFile : List ℕ → CompileRefusal → Type 0
-IsRefusedFile source (Fault text) = IsNoText source ⊎ IsRefusedText source
-IsRefusedFile source TooLong = HasLongTable source
-IsRefusedFile source NoMemory = Unit {0}
-
 -- the octets are no text, or a step refuses it
-abbrev pub IsRefusedSource : List ℕ → CompileRefusal → Type 0
-IsRefusedSource source (Fault text) = IsNoText source ⊎ IsRefusedText source
+abbrev pub IsRefusedSource : List ℕ → CompileFault → Type 0
 IsRefusedSource source TooLong = ⊥
 IsRefusedSource source NoMemory = Unit {0}
+IsRefusedSource source fault = IsNoText source fault ⊎ IsRefusedText source fault
 
--- what is told of a fault
-abbrev pub IsTold : CompileRefusal → Type 0
-IsTold (Fault text) = Unit {0}
-IsTold TooLong = ⊥
-IsTold NoMemory = Unit {0}
+abbrev pub IsRefusedFile : List ℕ → CompileFault → Type 0
+IsRefusedFile source TooLong = HasLongTable source
+IsRefusedFile source fault = IsRefusedSource source fault

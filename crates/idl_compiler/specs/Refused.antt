@@ -20,7 +20,7 @@ use Rattle.model_builder.specs.declared.fault.ModelFault.{ModelFault}
 use Rattle.model_builder.specs.declared.fault.ModelFault.TheVariants as Modelling
 use Rattle.model_builder.specs.Faults.{IsFault}
 use Rattle.idl_compiler.specs.declared.fault.CompileFault.{CompileFault}
-use Rattle.idl_compiler.specs.declared.fault.CompileFault.TheVariants.{Tokens, Grammar, Names, Types, NoMemory}
+use Rattle.idl_compiler.specs.declared.fault.CompileFault.TheVariants.{Tokens, Grammar, Names, Types, TooLong, NoMemory}
 use Rattle.idl_compiler.specs.declared.choice.Settled.{Settled}
 use Rattle.idl_compiler.specs.Compiled.{IsCompiled, IsTextOf}
 
@@ -56,6 +56,7 @@ IsFaultOf definitions (Tokens fault) = ⊥
 IsFaultOf definitions (Grammar fault) = ⊥
 IsFaultOf definitions (Names fault) = names_of definitions ≡ Err fault
 IsFaultOf definitions (Types fault) = IsFaultOfTypes definitions fault
+IsFaultOf definitions TooLong = ⊥
 IsFaultOf definitions NoMemory = Unit {0}
 
 -- ---- what it says of a text
@@ -84,6 +85,7 @@ IsRefused source (Tokens fault) = HasNoTokens source fault
 IsRefused source (Grammar fault) = HasNoTree source
 IsRefused source (Names fault) = HasFault source (Names fault)
 IsRefused source (Types fault) = HasFault source (Types fault)
+IsRefused source TooLong = ⊥
 IsRefused source NoMemory = Unit {0}
 
 -- no table is that of the text

@@ -1,19 +1,23 @@
 //! Why an IDL file has no table.
 
 ghost use Rattle.std.specs.Prelude.{◌≡◌};
+ghost use Rattle.idl_compiler.specs.Files.{RefusesTable};
 ghost use Rattle.idl_compiler.specs.Refused.{of_grammar, of_names, of_tokens, of_types};
 ghost use Rattle.idl_compiler.specs.declared.fault.CompileFault.TheVariants.{NoMemory};
+ghost use Rattle.position_checker.specs.File.{HasNoFile};
+ghost use Rattle.table_file.specs.Table.{TableParts};
 
 use idl_lexer::LexFault;
 use idl_parser::ParseFault;
 use marshal_program::GenFault;
 use model_builder::{ModelFault, TypeFault};
+use position_checker::FileFault;
 use scoped_names::NameFault;
 use std::alloc::AllocError;
 use thiserror::Error;
 
 /// The first fault of a file in the order of the steps: tokens, grammar, names, types. Its text is
-/// its number and name, with its line.
+/// its number and name, with its line. Octets that aren't UTF-8 are told as a character of line 0.
 #[derive(Debug, Drop, Error)]
 pub enum CompileFault {
     #[error(transparent)]
@@ -24,6 +28,9 @@ pub enum CompileFault {
     Names(NameFault),
     #[error(transparent)]
     Types(TypeFault),
+    /// The table has more octets than a file may have.
+    #[error("too long")]
+    TooLong,
     #[error("no memory")]
     NoMemory,
 }
@@ -86,5 +93,17 @@ impl From<GenFault> for CompileFault {
     /// The plain program is refused for want of memory alone.
     fn from(_fault: GenFault) -> CompileFault {
         CompileFault::NoMemory
+    }
+}
+
+/// Of a table that no octets spell there is too much of something.
+impl From<FileFault> for CompileFault {
+    ghost from_gives = { λ fault refusal. (table : TableParts) → HasNoFile table fault → RefusesTable table refusal };
+
+    fn from(fault: FileFault) -> CompileFault {
+        match fault {
+            FileFault::Unspelled(_) | FileFault::TooLong => CompileFault::TooLong,
+            FileFault::NoMemory => CompileFault::NoMemory,
+        }
     }
 }

@@ -6,11 +6,10 @@ mod choice;
 mod fault;
 mod file;
 pub mod laws;
-mod refusal;
+mod number;
 mod steps;
 
 pub use choice::{Settled, settle};
 pub use fault::CompileFault;
 pub use file::{CompiledFile, compile_file, compile_source};
-pub use refusal::CompileRefusal;
 pub use steps::{NamedTable, compile};

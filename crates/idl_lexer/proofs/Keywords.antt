@@ -2,11 +2,11 @@
 use Rattle.std.proofs.Common.{◌≡◌, ◌∙◌, ℕ, Bool, true, List, [], ◌∷◌, Bor, filter, length, map, ◌==◌, ◌||◌, ap, refl, sym, eq-eqb}
 use Rattle.std.specs.Char.{to_ascii_lowercase}
 use Rattle.std.specs.List.{list_any}
-use Rattle.std.specs.Str.{bytes_eq}
+use Rattle.std.specs.Str.{bytes_eq, str_eq_ignore_ascii_case}
 use Rattle.std.proofs.lemmas.List.{length-map}
 use Rattle.std.proofs.lemmas.Map.Views.{any-filter_same}
 use Rattle.std.proofs.lemmas.Slice.Eq.{bytes_eq-Decides}
-use Rattle.idl_lexer.specs.Words.{keywords, same_but_for_case}
+use Rattle.idl_lexer.specs.Words.{keywords}
 
 list_any-map : (p : List ℕ → Bool) (ts : List (Bor (List ℕ)))
     → list_any (λ (t : Bor (List ℕ)). p t.now) ts ≡ list_any p (map (λ (t : Bor (List ℕ)). t.now) ts)
@@ -28,7 +28,7 @@ among p w ts only are =
 pub same_text_len : (w k : List ℕ) → bytes_eq k w ≡ true → length k ≡ length w
 same_text_len w k h = same_len k w h
 
-pub same_but_for_case_len : (w k : List ℕ) → same_but_for_case k w ≡ true → length k ≡ length w
-same_but_for_case_len w k h =
+pub any_case_len : (w k : List ℕ) → str_eq_ignore_ascii_case k w ≡ true → length k ≡ length w
+any_case_len w k h =
     sym (length-map k to_ascii_lowercase) ∙ same_len (map to_ascii_lowercase k) (map to_ascii_lowercase w) h
     ∙ length-map w to_ascii_lowercase

@@ -5,11 +5,12 @@ use Rattle.std.proofs.lemmas.Bool.{cases_lt}
 use Rattle.std.proofs.lemmas.Bool.Decides.{nat_tests}
 use Rattle.std.proofs.lemmas.List.{drop-drop}
 use Rattle.idl_lexer.specs.declared.fault.LexFault.{LexFault}
+use Rattle.idl_lexer.specs.declared.fault.Start.{Start}
 use Rattle.idl_lexer.specs.declared.fault.LexFault.TheVariants.{OpenComment, BadNumber, OpenLiteral}
 use Rattle.idl_lexer.specs.declared.token.Token.{Token}
 use Rattle.idl_lexer.specs.Literals.{AreCharacters, none, more, IsCharacter}
-use Rattle.idl_lexer.specs.Faults.{character_fault, if_ascii, open_char, no_char, zero_char, no_more, of_directive, of_comment, of_char, of_text, of_number, of_word, IsCharFault, IsDirectiveFault, IsFault, IsFaultAt, IsTextFault, IsWordFault}
-use Rattle.idl_lexer.specs.Tokens.{Lexed, line_at}
+use Rattle.idl_lexer.specs.Faults.{character_fault, if_ascii, open_char, no_char, zero_char, no_more, of_directive, of_comment, of_char, of_text, of_number, of_word, IsCharFault, IsDirectiveFault, IsFault, IsFaultAt, IsTextFault, IsWordFault, start_at}
+use Rattle.idl_lexer.specs.Tokens.{Lexed}
 use Rattle.idl_lexer.proofs.Characters.{same_len, same_value}
 use Rattle.idl_lexer.proofs.Paths.{none_lexed, path, stuck}
 
@@ -28,13 +29,13 @@ abbrev sort : ℕ → Sort
 sort a = cond (a == 35) hash
     (cond (a == 47) slash (cond (a == 39) quote (cond (a == 34) quotes (cond (is_ascii_digit a) digit other))))
 
-abbrev OfSort : Sort → List ℕ → List ℕ → ℕ → LexFault → Type 0
-OfSort hash before s line fault = IsDirectiveFault before s line fault
-OfSort slash before s line fault = fault ≡ OpenComment line
-OfSort quote before s line fault = IsCharFault s line fault
-OfSort quotes before s line fault = IsTextFault s line fault
-OfSort digit before s line fault = fault ≡ BadNumber line
-OfSort other before s line fault = IsWordFault s line fault
+abbrev OfSort : Sort → List ℕ → List ℕ → Start → LexFault → Type 0
+OfSort hash before s start fault = IsDirectiveFault before s start fault
+OfSort slash before s start fault = fault ≡ OpenComment start.line start.octet
+OfSort quote before s start fault = IsCharFault s start fault
+OfSort quotes before s start fault = IsTextFault s start fault
+OfSort digit before s start fault = fault ≡ BadNumber start.line start.octet
+OfSort other before s start fault = IsWordFault s start fault
 
 unlike : (n a : ℕ) → a ≢ n → (a == n) ≡ false
 unlike n a h = grind (arith, nat_tests)
@@ -52,46 +53,46 @@ sort_of a b h1 h2 h3 h4 e =
     ∙ ap (λ x. cond x quotes (cond (is_ascii_digit a) digit other)) (unlike 34 a h4)
     ∙ ap (λ x. cond x digit other) e
 
-by_sort : (k : Sort) (before s : List ℕ) (line : ℕ) (fault : LexFault) → sort (slice_index s 0) ≡ k
-    → OfSort k before s line fault → OfSort (sort (slice_index s 0)) before s line fault
-by_sort k before s line fault e is = let P : Sort → Type 0 = λ j. OfSort j before s line fault in subst P (sym e) is
+by_sort : (k : Sort) (before s : List ℕ) (start : Start) (fault : LexFault) → sort (slice_index s 0) ≡ k
+    → OfSort k before s start fault → OfSort (sort (slice_index s 0)) before s start fault
+by_sort k before s start fault e is = let P : Sort → Type 0 = λ j. OfSort j before s start fault in subst P (sym e) is
 
-sorted : (before s : List ℕ) (line : ℕ) (fault : LexFault) → IsFaultAt before s line fault
-    → OfSort (sort (slice_index s 0)) before s line fault
-sorted before s line fault (of_directive e is) = by_sort hash before s line fault (ap sort e) is
-sorted before s line fault (of_comment e is) = by_sort slash before s line fault (ap sort e) is
-sorted before s line fault (of_char e is) = by_sort quote before s line fault (ap sort e) is
-sorted before s line fault (of_text e is) = by_sort quotes before s line fault (ap sort e) is
-sorted before s line fault (of_number e is) =
+sorted : (before s : List ℕ) (start : Start) (fault : LexFault) → IsFaultAt before s start fault
+    → OfSort (sort (slice_index s 0)) before s start fault
+sorted before s start fault (of_directive e is) = by_sort hash before s start fault (ap sort e) is
+sorted before s start fault (of_comment e is) = by_sort slash before s start fault (ap sort e) is
+sorted before s start fault (of_char e is) = by_sort quote before s start fault (ap sort e) is
+sorted before s start fault (of_text e is) = by_sort quotes before s start fault (ap sort e) is
+sorted before s start fault (of_number e is) =
     let low = low_digit (slice_index s 0) e in
-    by_sort digit before s line fault
+    by_sort digit before s start fault
     (sort_of (slice_index s 0) true (λ f. omega arith) (λ f. omega arith) (λ f. omega arith) (λ f. omega arith) e)
     is
-sorted before s line fault (of_word h1 h2 h3 h4 e is) =
-    by_sort other before s line fault (sort_of (slice_index s 0) false h1 h2 h3 h4 e) is
+sorted before s start fault (of_word h1 h2 h3 h4 e is) =
+    by_sort other before s start fault (sort_of (slice_index s 0) false h1 h2 h3 h4 e) is
 
 -- ---- of one sort there is one fault
 
-directive_one : (before s : List ℕ) (line : ℕ) (f g : LexFault) → IsDirectiveFault before s line f
-    → IsDirectiveFault before s line g → f ≡ g
-directive_one before s line f g (inl a) (inl b) = a.2 ∙ sym b.2
-directive_one before s line f g (inl a) (inr b) = absurd (b.0 a.0 a.1)
-directive_one before s line f g (inr a) (inl b) = absurd (a.0 b.0 b.1)
-directive_one before s line f g (inr a) (inr b) = a.1 ∙ sym b.1
+directive_one : (before s : List ℕ) (start : Start) (f g : LexFault) → IsDirectiveFault before s start f
+    → IsDirectiveFault before s start g → f ≡ g
+directive_one before s start f g (inl a) (inl b) = a.2 ∙ sym b.2
+directive_one before s start f g (inl a) (inr b) = absurd (b.0 a.0 a.1)
+directive_one before s start f g (inr a) (inl b) = absurd (a.0 b.0 b.1)
+directive_one before s start f g (inr a) (inr b) = a.1 ∙ sym b.1
 
-word_one : (s : List ℕ) (line : ℕ) (f g : LexFault) → IsWordFault s line f → IsWordFault s line g → f ≡ g
-word_one s line f g (inl a) (inl b) = a.1 ∙ sym b.1
-word_one s line f g (inl a) (inr b) = let both : true ≡ false = sym a.0 ∙ b.0 in cc
-word_one s line f g (inr a) (inl b) = let both : true ≡ false = sym b.0 ∙ a.0 in cc
-word_one s line f g (inr a) (inr b) = a.1 ∙ sym b.1
+word_one : (s : List ℕ) (start : Start) (f g : LexFault) → IsWordFault s start f → IsWordFault s start g → f ≡ g
+word_one s start f g (inl a) (inl b) = a.1 ∙ sym b.1
+word_one s start f g (inl a) (inr b) = let both : true ≡ false = sym a.0 ∙ b.0 in cc
+word_one s start f g (inr a) (inl b) = let both : true ≡ false = sym b.0 ∙ a.0 in cc
+word_one s start f g (inr a) (inr b) = a.1 ∙ sym b.1
 
-char_one : (s : List ℕ) (line : ℕ) (f g : LexFault) → IsCharFault s line f → IsCharFault s line g → f ≡ g
-char_one s line f g (open_char n v char closes e) (open_char m w char2 closes2 e2) =
-    e ∙ ap (λ k. if_ascii (drop (k + 1) s) (OpenLiteral line) line) (same_len 39 39 (drop 1 s) n m v w char char2)
-    ∙ sym e2
-char_one s line f g (open_char n v char closes e) (no_char never e2) = absurd (never n v char)
-char_one s line f g (no_char never e) (open_char n v char closes e2) = absurd (never n v char)
-char_one s line f g (no_char never e) (no_char never2 e2) = e ∙ sym e2
+char_one : (s : List ℕ) (start : Start) (f g : LexFault) → IsCharFault s start f → IsCharFault s start g → f ≡ g
+char_one s start f g (open_char n v char closes e) (open_char m w char2 closes2 e2) =
+    e ∙ ap (λ k. if_ascii (drop (k + 1) s) (OpenLiteral start.line start.octet) start)
+    (same_len 39 39 (drop 1 s) n m v w char char2) ∙ sym e2
+char_one s start f g (open_char n v char closes e) (no_char never e2) = absurd (never n v char)
+char_one s start f g (no_char never e) (open_char n v char closes e2) = absurd (never n v char)
+char_one s start f g (no_char never e) (no_char never2 e2) = e ∙ sym e2
 
 -- behind characters that end at a place no other stands there
 abbrev Stops : List ℕ → Type 0
@@ -130,29 +131,29 @@ zero_stops s n zeros m v char nz = nz (same_value 34 34 s m n v 0 char zeros)
 none_stops : (s : List ℕ) → ((n v : ℕ) → IsCharacter 34 s n v → ⊥) → Stops s
 none_stops s never n v char nz = never n v char
 
-text_one : (s : List ℕ) (line : ℕ) (f g : LexFault) → IsTextFault s line f → IsTextFault s line g → f ≡ g
-text_one s line f g (zero_char k n vs chars zeros e) (zero_char j m ws chars2 zeros2 e2) = e ∙ sym e2
-text_one s line f g (zero_char k n vs chars zeros e) (no_more j ws chars2 other2 never e2) =
+text_one : (s : List ℕ) (start : Start) (f g : LexFault) → IsTextFault s start f → IsTextFault s start g → f ≡ g
+text_one s start f g (zero_char k n vs chars zeros e) (zero_char j m ws chars2 zeros2 e2) = e ∙ sym e2
+text_one s start f g (zero_char k n vs chars zeros e) (no_more j ws chars2 other2 never e2) =
     let same : j ≡ k = sym (text_end s k j vs ws chars (zero_stops (drop (k + 1) s) n zeros) chars2
     (none_stops (drop (j + 1) s) never)) in
     absurd (never n 0 (rw same zeros))
-text_one s line f g (no_more j ws chars2 other2 never e) (zero_char k n vs chars zeros e2) =
+text_one s start f g (no_more j ws chars2 other2 never e) (zero_char k n vs chars zeros e2) =
     let same : j ≡ k = sym (text_end s k j vs ws chars (zero_stops (drop (k + 1) s) n zeros) chars2
     (none_stops (drop (j + 1) s) never)) in
     absurd (never n 0 (rw same zeros))
-text_one s line f g (no_more k vs chars other1 never e) (no_more j ws chars2 other2 never2 e2) =
+text_one s start f g (no_more k vs chars other1 never e) (no_more j ws chars2 other2 never2 e2) =
     let same : k ≡ j = text_end s k j vs ws chars (none_stops (drop (k + 1) s) never) chars2
     (none_stops (drop (j + 1) s) never2) in
-    e ∙ ap (λ i. character_fault 34 (drop (i + 1) s) line) same ∙ sym e2
+    e ∙ ap (λ i. character_fault 34 (drop (i + 1) s) start) same ∙ sym e2
 
-one : (k : Sort) (before s : List ℕ) (line : ℕ) (f g : LexFault) → OfSort k before s line f → OfSort k before s line g
-    → f ≡ g
-one hash before s line f g a b = directive_one before s line f g a b
-one slash before s line f g a b = a ∙ sym b
-one quote before s line f g a b = char_one s line f g a b
-one quotes before s line f g a b = text_one s line f g a b
-one digit before s line f g a b = a ∙ sym b
-one other before s line f g a b = word_one s line f g a b
+one : (k : Sort) (before s : List ℕ) (start : Start) (f g : LexFault) → OfSort k before s start f
+    → OfSort k before s start g → f ≡ g
+one hash before s start f g a b = directive_one before s start f g a b
+one slash before s start f g a b = a ∙ sym b
+one quote before s start f g a b = char_one s start f g a b
+one quotes before s start f g a b = text_one s start f g a b
+one digit before s start f g a b = a ∙ sym b
+one other before s start f g a b = word_one s start f g a b
 
 -- ---- a source is stuck at one place
 
@@ -172,12 +173,12 @@ same_place source f g a b = elim (cases_lt a.place b.place) [
 
 pub one_fault : (source : List ℕ) (f g : LexFault) → IsFault source f → IsFault source g → f ≡ g
 one_fault source f g a b =
-    let P : ℕ → Type 0 = λ k. IsFaultAt (take k source) (drop k source) (line_at source k) g in
+    let P : ℕ → Type 0 = λ k. IsFaultAt (take k source) (drop k source) (start_at source k) g in
     let there : P a.place = subst P (sym (same_place source f g a b)) b.told in
     let s = drop a.place source in
-    one (sort (slice_index s 0)) (take a.place source) s (line_at source a.place) f g
-    (sorted (take a.place source) s (line_at source a.place) f a.told)
-    (sorted (take a.place source) s (line_at source a.place) g there)
+    one (sort (slice_index s 0)) (take a.place source) s (start_at source a.place) f g
+    (sorted (take a.place source) s (start_at source a.place) f a.told)
+    (sorted (take a.place source) s (start_at source a.place) g there)
 
 -- and then it has no tokens
 pub fault_or_tokens : (source : List ℕ) (tokens : List Token) (fault : LexFault) → Lexed source tokens

@@ -2,7 +2,7 @@
 use Rattle.std.proofs.Common.{◌≡◌, ◌≢◌, ◌∙◌, ℕ, zero, suc, ◌+◌, ◌<◌, ◌≤◌, Bool, true, false, not, ◌&&◌, ◌||◌, ◌==◌, ◌⊎◌, inl, inr, List, [], ◌∷◌, Option, Some, None, cond, codes, length, map, take, drop, slice_index, ap, subst, sym, refl, arith}
 use Rattle.std.specs.Char.{is_ascii, is_ascii_alphabetic, is_ascii_digit, to_ascii_lowercase}
 use Rattle.std.specs.List.{list_all, list_any}
-use Rattle.std.specs.Str.{bytes_eq}
+use Rattle.std.specs.Str.{bytes_eq, str_eq_ignore_ascii_case}
 use Rattle.std.proofs.lemmas.Bool.{cases_lt}
 use Rattle.std.proofs.lemmas.Bool.Decides.{nat_tests}
 use Rattle.std.proofs.lemmas.List.{get_or-drop, get_or-take}
@@ -10,7 +10,7 @@ use Rattle.std.proofs.lemmas.Slice.Eq.{bytes_eq-Decides}
 use Rattle.idl_lexer.specs.declared.token.Kind.{Kind}
 use Rattle.idl_lexer.specs.declared.token.Kind.TheVariants.{Ident, Keyword, Punct, Number, CharLit, TextLit, Pragma}
 use Rattle.idl_lexer.specs.Octets.{is_blank, is_line_feed, is_one_of, is_word, run}
-use Rattle.idl_lexer.specs.Words.{is_keyword, is_keyword_in_some_case, keywords, same_but_for_case, IsIdentifier, IsKeyword}
+use Rattle.idl_lexer.specs.Words.{is_keyword, is_keyword_in_some_case, keywords, IsIdentifier, IsKeyword}
 use Rattle.idl_lexer.specs.Numbers.{IsInteger, IsLiteral}
 use Rattle.idl_lexer.specs.Punctuation.{is_pair, is_punctuation, opens_comment}
 use Rattle.idl_lexer.specs.Literals.{AreCharacters, none, more, IsCharLiteral, IsTextLiteral}
@@ -400,17 +400,17 @@ mark_len n a b h = elim (punctuation_len n a b h) [
     pair false h = h
 
 listed : (w : List ℕ) (ks : List (List ℕ)) → list_any (λ k. bytes_eq k w) ks ≡ true
-    → list_any (λ k. same_but_for_case k w) ks ≡ true
+    → list_any (λ k. str_eq_ignore_ascii_case k w) ks ≡ true
 listed w [] h = h
 listed w (k ∷ ks) h = elim (or_true (bytes_eq k w) (list_any (λ j. bytes_eq j w) ks) h) [
   | inl here ↦ (
       let same : k ≡ w = (bytes_eq-Decides k w).0 here in
-      let alike : same_but_for_case k w ≡ true =
+      let alike : str_eq_ignore_ascii_case k w ≡ true =
       rw same ((bytes_eq-Decides (map to_ascii_lowercase w) (map to_ascii_lowercase w)).1 refl) in
-      ap (λ b. b || list_any (λ j. same_but_for_case j w) ks) alike)
+      ap (λ b. b || list_any (λ j. str_eq_ignore_ascii_case j w) ks) alike)
   | inr later ↦ (
-      let there : list_any (λ j. same_but_for_case j w) ks ≡ true = listed w ks later in
-      ap (λ b. same_but_for_case k w || b) there ∙ or_last (same_but_for_case k w))
+      let there : list_any (λ j. str_eq_ignore_ascii_case j w) ks ≡ true = listed w ks later in
+      ap (λ b. str_eq_ignore_ascii_case k w || b) there ∙ or_last (str_eq_ignore_ascii_case k w))
 ]
   where
     or_last : (b : Bool) → (b || true) ≡ true

@@ -1,8 +1,8 @@
 -- Identifiers and keywords (lexical conventions, identifiers, keywords).
-use Rattle.std.specs.Prelude.{◌≡◌, ℕ, ◌+◌, Bool, true, not, ◌⊎◌, List, [], ◌∷◌, take, drop, map, slice_index, codes, if◌then◌else◌, ◌==◌}
-use Rattle.std.specs.Char.{is_ascii_alphabetic, to_ascii_lowercase}
+use Rattle.std.specs.Prelude.{◌≡◌, ℕ, ◌+◌, Bool, true, not, ◌⊎◌, List, [], ◌∷◌, take, drop, slice_index, codes, if◌then◌else◌, ◌==◌}
+use Rattle.std.specs.Char.{is_ascii_alphabetic}
 use Rattle.std.specs.List.{list_any}
-use Rattle.std.specs.Str.{bytes_eq}
+use Rattle.std.specs.Str.{bytes_eq, str_eq_ignore_ascii_case}
 use Rattle.idl_lexer.specs.Octets.{is_word, run}
 
 -- the keywords of IDL
@@ -25,12 +25,8 @@ keywords =
 abbrev pub is_keyword : List ℕ → Bool
 is_keyword w = list_any (λ k. bytes_eq k w) keywords
 
--- a and b differ at most in the case of letters
-abbrev pub same_but_for_case : List ℕ → List ℕ → Bool
-same_but_for_case a b = bytes_eq (map to_ascii_lowercase a) (map to_ascii_lowercase b)
-
 abbrev pub is_keyword_in_some_case : List ℕ → Bool
-is_keyword_in_some_case w = list_any (λ k. same_but_for_case k w) keywords
+is_keyword_in_some_case w = list_any (λ k. str_eq_ignore_ascii_case k w) keywords
 
 -- s begins with a word of n octets: a letter, then letters, digits and underscores, as many as follow
 pub record IsWord (s : List ℕ) (n : ℕ) : Type 0 where

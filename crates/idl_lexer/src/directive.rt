@@ -14,7 +14,7 @@ ghost use Rattle.idl_lexer.specs.Faults.{IsDirectiveFault};
 ghost use Rattle.idl_lexer.specs.Lexemes.{HasNoForm};
 ghost use Rattle.idl_lexer.specs.inner.Steps.{IsLexeme};
 
-use crate::fault::LexFault;
+use crate::fault::{LexFault, Start};
 use crate::lexeme::Lexeme;
 use crate::octets::{
     are_ascii, are_blank, are_blanks_or_digits, behind_first, blank_len, digit_len, is_blank_octet,
@@ -303,21 +303,22 @@ fn is_fresh(before: &[u8]) -> bool
 ///
 /// `BadChar` where something other than blanks stands before it on its line, and for a character
 /// outside ASCII; else `BadDirective`.
-pub(crate) fn directive(before: &[u8], octets: &[u8], line: usize) -> Result<Lexeme, LexFault>
+pub(crate) fn directive(before: &[u8], octets: &[u8], start: Start) -> Result<Lexeme, LexFault>
     requires { slice_index octets.now 0 ≡ 35 }
     ensures form { IfOk result (λ l. IsLexeme before.now octets.now l) }
     ensures refused { IfErr result (λ _. HasNoForm before.now octets.now) }
-    ensures told { IfErr result (IsDirectiveFault before.now octets.now line) }
+    ensures told { IfErr result (IsDirectiveFault before.now octets.now start) }
 {
+    let Start { line, octet } = start;
     let text = octets.split_at(line_len(octets)).0;
     if !is_fresh(before) || !are_ascii(text) {
-        return Err(LexFault::BadChar { line });
+        return Err(LexFault::BadChar { line, octet });
     }
     if is_kept(text) {
         Ok(Lexeme::token(Kind::Pragma, text.len()))
     } else if is_skipped(text) {
         Ok(Lexeme::skipped(text.len()))
     } else {
-        Err(LexFault::BadDirective { line })
+        Err(LexFault::BadDirective { line, octet })
     }
 }

@@ -14,7 +14,7 @@ ghost use Rattle.idl_lexer.specs.Tokens.{HaveLines, Lexed, end_of};
 
 use crate::comment::block_comment;
 use crate::directive::directive;
-use crate::fault::LexFault;
+use crate::fault::{LexFault, Start};
 use crate::lexeme::Lexeme;
 use crate::literal::{char_literal, text_literal};
 use crate::number::integer;
@@ -25,15 +25,15 @@ use crate::word::word;
 use std::alloc::Global;
 
 /// The mark of punctuation or the word at the front.
-fn mark_or_word(octets: &[u8], line: usize) -> Result<Lexeme, LexFault>
+fn mark_or_word(octets: &[u8], start: Start) -> Result<Lexeme, LexFault>
     ensures form { IfOk result (λ l. (before : List ℕ) → IsLexeme before octets.now l) }
     ensures no_mark { IfErr result (λ _. (n : ℕ) → is_punctuation octets.now n ≡ false) }
     ensures no_word { IfErr result (λ _. HasNoWord octets.now) }
-    ensures told { IfErr result (IsWordFault octets.now line) }
+    ensures told { IfErr result (IsWordFault octets.now start) }
 {
     match punct_len(octets) {
         Some(len) => Ok(Lexeme::token(Kind::Punct, len)),
-        None => match word(octets, line) {
+        None => match word(octets, start) {
             Ok((kind, len)) => Ok(Lexeme::token(kind, len)),
             Err(fault) => Err(fault),
         },
@@ -51,21 +51,21 @@ fn octet_at(octets: &[u8], at: usize) -> u8
 }
 
 /// What the octets begin with, behind those before them.
-fn lexeme(before: &[u8], octets: &[u8], line: usize) -> Result<Lexeme, LexFault>
+fn lexeme(before: &[u8], octets: &[u8], start: Start) -> Result<Lexeme, LexFault>
     ensures form { IfOk result (λ l. IsLexeme before.now octets.now l) }
     ensures refused { IfErr result (λ _. HasNoForm before.now octets.now) }
-    ensures told { IfErr result (IsFaultAt before.now octets.now line) }
+    ensures told { IfErr result (IsFaultAt before.now octets.now start) }
 {
     let (first, second) = (octet_at(octets, 0), octet_at(octets, 1));
     match first {
-        b'#' => directive(before, octets, line),
+        b'#' => directive(before, octets, start),
         b'/' if second == b'/' => Ok(Lexeme::skipped(line_len(octets))),
-        b'/' if second == b'*' => Ok(Lexeme::skipped(block_comment(octets, line)?)),
-        b'\'' => Ok(Lexeme::token(Kind::CharLit, char_literal(octets, line)?)),
-        b'"' => Ok(Lexeme::token(Kind::TextLit, text_literal(octets, line)?)),
-        _ if first.is_ascii_digit() => Ok(Lexeme::token(Kind::Number, integer(octets, line)?)),
+        b'/' if second == b'*' => Ok(Lexeme::skipped(block_comment(octets, start)?)),
+        b'\'' => Ok(Lexeme::token(Kind::CharLit, char_literal(octets, start)?)),
+        b'"' => Ok(Lexeme::token(Kind::TextLit, text_literal(octets, start)?)),
+        _ if first.is_ascii_digit() => Ok(Lexeme::token(Kind::Number, integer(octets, start)?)),
         _ if is_blank_octet(first) => Ok(Lexeme::skipped(blank_len(octets))),
-        _ => mark_or_word(octets, line),
+        _ => mark_or_word(octets, start),
     }
 }
 
@@ -130,7 +130,7 @@ pub fn lex(alloc: Global, source: &str) -> Result<Vec<Token<'_>>, LexFault>
     let mut line = 1;
     while at < octets.len() {
         let (before, rest) = octets.split_at(at);
-        let found = lexeme(before, rest, line)?;
+        let found = lexeme(before, rest, Start { line, octet: at })?;
         let end = at + found.len;
         match found.kind {
             Some(kind) => {

@@ -6,7 +6,7 @@ ghost use Rattle.idl_lexer.specs.Octets.{run};
 ghost use Rattle.idl_lexer.specs.Numbers.{is_word_or_point, number_value, IsInteger, IsLiteral, IsNumber};
 ghost use Rattle.idl_lexer.specs.declared.fault.LexFault.TheVariants.{BadNumber};
 
-use crate::fault::LexFault;
+use crate::fault::{LexFault, Start};
 use crate::octets::is_word_octet;
 
 /// The number that the digits write in this radix, where it has at most 64 bits.
@@ -56,16 +56,17 @@ pub(crate) fn literal_value(octets: &[u8]) -> Option<u64>
 /// # Errors
 ///
 /// `BadNumber` where that is no integer literal.
-pub(crate) fn integer(octets: &[u8], line: usize) -> Result<usize, LexFault>
+pub(crate) fn integer(octets: &[u8], start: Start) -> Result<usize, LexFault>
     ensures form { IfOk result (λ n. IsInteger octets.now n) }
     ensures within { IfOk result (λ n. n ≤ length octets.now) }
     ensures long { IfOk result (λ n. 0 < n) }
     ensures refused { IfErr result (λ _. (n : ℕ) → IsInteger octets.now n → ⊥) }
-    ensures told { IfErr result (λ fault. fault ≡ BadNumber line) }
+    ensures told { IfErr result (λ fault. fault ≡ BadNumber start.line start.octet) }
 {
+    let Start { line, octet } = start;
     let len = number_len(octets);
     match literal_value(octets.split_at(len).0) {
         Some(_) => Ok(len),
-        None => Err(LexFault::BadNumber { line }),
+        None => Err(LexFault::BadNumber { line, octet }),
     }
 }

@@ -5,6 +5,7 @@ ghost use Rattle.idl_lexer.specs.Forms.{HasForm};
 ghost use Rattle.idl_lexer.specs.Numbers.{number_value as value_of};
 ghost use Rattle.idl_lexer.specs.Literals.{ClosedCharacters, IsCharLiteral, IsTextLiteral};
 
+use crate::fault::NOWHERE;
 use crate::literal::character;
 use crate::number::literal_value;
 use crate::octets::behind_first;
@@ -27,7 +28,7 @@ pub fn character_value(text: &str) -> u8
     requires { HasForm Kind.CharLit text.now }
     ensures { (literal : IsCharLiteral text.now (length text.now)) → result ≡ literal.value }
 {
-    match character(behind_first(text.as_bytes()), b'\'', 0) {
+    match character(behind_first(text.as_bytes()), b'\'', NOWHERE) {
         Ok((value, _)) => value,
         Err(_) => unreachable!(),
     }
@@ -48,7 +49,7 @@ fn push_characters(octets: &[u8], out: &mut Vec<u8>) -> Result<(), AllocError>
 {
     let mut rest = octets;
     while !begins_with_quote(rest) {
-        let (value, len) = match character(rest, b'"', 0) {
+        let (value, len) = match character(rest, b'"', NOWHERE) {
             Ok(read) => read,
             Err(_) => unreachable!(),
         };

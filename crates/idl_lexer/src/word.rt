@@ -3,15 +3,15 @@
 ghost use Rattle.std.specs.Prelude.{◌≡◌, ◌<◌, ◌≤◌, ◌==◌, ℕ, List, map, filter, length, IfErr, IfNone, IfOk, IfSome, IsTrue, slice_index};
 ghost use Rattle.std.specs.Char.{is_ascii_alphabetic};
 ghost use Rattle.std.specs.List.{list_any};
-ghost use Rattle.std.specs.Str.{bytes_eq};
+ghost use Rattle.std.specs.Str.{bytes_eq, str_eq_ignore_ascii_case};
 ghost use Rattle.idl_lexer.specs.Words.{is_keyword as listed, is_keyword_in_some_case as listed_in_some_case};
-ghost use Rattle.idl_lexer.specs.Words.{keywords, same_but_for_case, IsIdentifier};
+ghost use Rattle.idl_lexer.specs.Words.{keywords, IsIdentifier};
 ghost use Rattle.idl_lexer.specs.Forms.{Begins};
 ghost use Rattle.idl_lexer.specs.inner.Steps.{HasNoWord};
 ghost use Rattle.idl_lexer.specs.Faults.{IsWordFault};
 ghost use Rattle.idl_lexer.specs.declared.fault.LexFault.TheVariants.{KeywordCase};
 
-use crate::fault::LexFault;
+use crate::fault::{LexFault, NOWHERE, Start};
 use crate::octets::word_len;
 use crate::token::Kind;
 
@@ -74,14 +74,15 @@ fn begins_with_letter(octets: &[u8]) -> bool
 }
 
 /// The word at the front, which begins with a letter: a keyword or an identifier.
-fn plain_word(octets: &[u8], line: usize) -> Result<(Kind, usize), LexFault>
+fn plain_word(octets: &[u8], start: Start) -> Result<(Kind, usize), LexFault>
     requires { IsTrue (is_ascii_alphabetic (slice_index octets.now 0)) }
     ensures form { IfOk result (λ w. (before : List ℕ) → Begins w.0 before octets.now w.1) }
     ensures within { IfOk result (λ w. w.1 ≤ length octets.now) }
     ensures long { IfOk result (λ w. 0 < w.1) }
     ensures refused { IfErr result (λ _. HasNoWord octets.now) }
-    ensures told { IfErr result (λ fault. fault ≡ KeywordCase line) }
+    ensures told { IfErr result (λ fault. fault ≡ KeywordCase start.line start.octet) }
 {
+    let Start { line, octet } = start;
     let len = word_len(octets);
     let word = octets.split_at(len).0;
     if !is_keyword_in_some_case(word) {
@@ -89,7 +90,7 @@ fn plain_word(octets: &[u8], line: usize) -> Result<(Kind, usize), LexFault>
     } else if is_keyword(word) {
         Ok((Kind::Keyword, len))
     } else {
-        Err(LexFault::KeywordCase { line })
+        Err(LexFault::KeywordCase { line, octet })
     }
 }
 
@@ -99,17 +100,18 @@ fn plain_word(octets: &[u8], line: usize) -> Result<(Kind, usize), LexFault>
 ///
 /// `KeywordCase` where it is a keyword but for the case of letters, and `BadChar` where no word is
 /// there.
-pub(crate) fn word(octets: &[u8], line: usize) -> Result<(Kind, usize), LexFault>
+pub(crate) fn word(octets: &[u8], start: Start) -> Result<(Kind, usize), LexFault>
     ensures form { IfOk result (λ w. (before : List ℕ) → Begins w.0 before octets.now w.1) }
     ensures within { IfOk result (λ w. w.1 ≤ length octets.now) }
     ensures long { IfOk result (λ w. 0 < w.1) }
     ensures refused { IfErr result (λ _. HasNoWord octets.now) }
-    ensures told { IfErr result (IsWordFault octets.now line) }
+    ensures told { IfErr result (IsWordFault octets.now start) }
 {
+    let Start { line, octet } = start;
     match octets {
         [b'_', name @ ..] if begins_with_letter(name) => Ok((Kind::Ident, word_len(name) + 1)),
-        _ if begins_with_letter(octets) => plain_word(octets, line),
-        _ => Err(LexFault::BadChar { line }),
+        _ if begins_with_letter(octets) => plain_word(octets, start),
+        _ => Err(LexFault::BadChar { line, octet }),
     }
 }
 
@@ -119,7 +121,7 @@ pub(crate) fn identifier_len(octets: &[u8]) -> Option<usize>
     ensures within { IfSome result (λ n. n ≤ length octets.now) }
     ensures none { IfNone result ((n : ℕ) → IsIdentifier octets.now n → ⊥) }
 {
-    match word(octets, 0) {
+    match word(octets, NOWHERE) {
         Ok((kind, len)) => match kind {
             Kind::Ident => Some(len),
             _ => None,
@@ -147,7 +149,7 @@ fn is_among(texts: &[&str], word: &[u8]) -> bool
 }
 
 fn is_among_but_for_case(texts: &[&str], word: &[u8]) -> bool
-    ensures { result ≡ list_any (λ t. same_but_for_case t.now word.now) texts.now }
+    ensures { result ≡ list_any (λ t. str_eq_ignore_ascii_case t.now word.now) texts.now }
 {
     texts
         .iter()

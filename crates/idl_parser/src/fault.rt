@@ -6,22 +6,34 @@ ghost use Rattle.idl_parser.specs.declared.fault.ParseFault.TheVariants.{NoMemor
 use std::alloc::{AllocError, AllocFailed};
 use thiserror::Error;
 
-/// The first fault in the order of reading, with the line of its token.
+/// The first fault in the order of reading, with its token's line and its number among the tokens, counted from 0.
 #[derive(Clone, Copy, Debug, PartialEq, Eq, Drop, Error)]
 pub enum ParseFault {
-    /// The token of this number, counted from 0, can't stand here.
+    /// The token can't stand here.
     #[error("10 Unexpected line {line}")]
-    Unexpected { at: usize, line: usize },
+    Unexpected {
+        at: usize,
+        line: usize,
+    },
     /// The tokens end inside a definition. The line is the last token's.
     #[error("11 EndOfFile line {line}")]
-    EndOfFile { line: usize },
+    EndOfFile {
+        line: usize,
+    },
     /// A keyword of a part of IDL that isn't served.
     #[error("12 LeftOut line {line}")]
-    LeftOut { what: &'static str, line: usize },
-    /// More than 64 modules, types and parentheses one inside another. The line is that of the mark
-    /// that opens the 65th.
+    LeftOut {
+        what: &'static str,
+        at: usize,
+        line: usize,
+    },
+    /// More than 64 modules, types and parentheses one inside another. The token is the mark that
+    /// opens the 65th.
     #[error("13 TooDeep line {line}")]
-    TooDeep { line: usize },
+    TooDeep {
+        at: usize,
+        line: usize,
+    },
     /// Memory was refused.
     #[error("no memory")]
     NoMemory,

@@ -3,7 +3,10 @@
 
 ghost use Rattle.std.specs.Prelude.{◌≡◌, ◌≤◌, ◌⊎◌, List, IfErr, IfOk};
 ghost use Rattle.definition_reader.specs.declared.stop.Stop.TheVariants.{NoMemory as StopNoMemory};
+ghost use Rattle.definition_reader.specs.Specification.{IsNext};
 ghost use Rattle.idl_parser.specs.declared.fault.ParseFault.TheVariants.{NoMemory};
+ghost use Rattle.idl_parser.specs.Told.{TellsOf};
+ghost use Rattle.idl_tree.specs.declared.names.Leaf.{Leaf};
 ghost use Rattle.idl_tree.specs.declared.definitions.Definition.{Definition};
 ghost use Rattle.idl_tree.specs.Pieces.{Spell};
 ghost use Rattle.idl_tree.specs.DefinitionYields.{definitions_spelled};
@@ -25,19 +28,18 @@ fn last_line(tokens: &[Token<'_>]) -> usize {
 }
 
 /// Why the next token can't stand where it does.
-fn unexpected(cursor: &Cursor<'_, '_>, tokens: &[Token<'_>]) -> ParseFault {
+fn unexpected(cursor: &Cursor<'_, '_>, tokens: &[Token<'_>]) -> ParseFault
+    ensures { (next : Leaf) → IsNext next cursor.now → TellsOf next result }
+{
     let Some(next) = cursor.next_token() else {
         return ParseFault::EndOfFile {
             line: last_line(tokens),
         };
     };
-    let line = next.token.line as usize;
+    let (at, line) = (next.number, next.token.line as usize);
     match left_out(&next.token) {
-        Some(what) => ParseFault::LeftOut { what, line },
-        None => ParseFault::Unexpected {
-            at: next.number,
-            line,
-        },
+        Some(what) => ParseFault::LeftOut { what, at, line },
+        None => ParseFault::Unexpected { at, line },
     }
 }
 
@@ -47,7 +49,7 @@ fn told(cursor: &Cursor<'_, '_>, tokens: &[Token<'_>], stop: Stop) -> ParseFault
 {
     match stop {
         Stop::Unexpected => unexpected(cursor, tokens),
-        Stop::TooDeep { line } => ParseFault::TooDeep { line },
+        Stop::TooDeep { at, line } => ParseFault::TooDeep { at, line },
         Stop::NoMemory => ParseFault::NoMemory,
     }
 }

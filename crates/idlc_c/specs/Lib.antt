@@ -3,6 +3,5 @@ pub mod Handle
 pub mod MessageAnswers
 pub mod Numbers
 pub mod SourceAnswers
-pub mod SourceNumbers
 pub mod TextAnswers
 pub mod inner

@@ -24,7 +24,6 @@ mod messages;
 mod names;
 mod octets;
 mod refusal;
-mod source_fault;
 mod source_place;
 mod text;
 
@@ -32,11 +31,11 @@ use crate::column::column_of;
 use crate::marshal::order;
 use crate::messages::{buffer_number, message_told};
 use crate::refusal::{Refusal, done, told, told_at};
-use crate::source_fault::SourceFault;
 use giop::giop_buffers;
 pub use giop::giop_buffers::MessageFront;
 use giop::giop_buffers::RequestHead;
 pub use handle::Handle;
+use idl_compiler::CompileFault;
 pub use refusal::RefusalPlace;
 pub use source_place::SourcePlace;
 use std::alloc::Global;
@@ -98,10 +97,10 @@ pub extern "C" fn idlc_compile(
             *handle = Handle::of(held);
             0
         }
-        Err(SourceFault::NoMemory) => 42,
+        Err(CompileFault::NoMemory) => 42,
         Err(fault) => {
-            *place = fault.place();
-            place.column = column_of(alloc, source, place.line);
+            *place = SourcePlace::of_source(&fault);
+            place.column = column_of(alloc, source, &fault, place.line);
             47
         }
     }

@@ -6,8 +6,8 @@ use Rattle.idlc_main.specs.declared.fault.Fault.{Fault}
 use Rattle.idlc_main.specs.declared.fault.Fault.TheVariants.{Words, NotText, Refused, Unsaid, NotCompiled, Explained, NotSpelled, NotCapture, BadLine, CutShort, NoOperation, NotCalled, NotServed, Socket, NoRefusal, Unwritten, NoMemory}
 use Rattle.command_words.specs.declared.mistake.Mistake.{Mistake}
 use Rattle.command_words.specs.declared.mistake.Mistake.TheVariants as mistakes
-use Rattle.idl_compiler.specs.declared.refusal.CompileRefusal.{CompileRefusal}
-use Rattle.idl_compiler.specs.declared.refusal.CompileRefusal.TheVariants as sources
+use Rattle.idl_compiler.specs.declared.fault.CompileFault.{CompileFault}
+use Rattle.idl_compiler.specs.declared.fault.CompileFault.TheVariants as sources
 use Rattle.command_files.specs.declared.fault.NamedFault.{NamedFault}
 use Rattle.command_files.specs.declared.fault.NamedFault.TheVariants as tables
 use Rattle.idlc_main.specs.Fault.{IsOfNamed, fault_of_source, fault_of_words, status_of, status_of_refusal, status_of_spelling}
@@ -27,11 +27,10 @@ statuses (refusals.Unwritten file) = inr (omega arith)
 statuses refusals.NoMemory = inr (omega arith)
 statuses refusal = inl refl
 
-source_statuses : (refusal : CompileRefusal) → (status_of (fault_of_source refusal) ≡ 1)
+source_statuses : (refusal : CompileFault) → (status_of (fault_of_source refusal) ≡ 1)
     ⊎ (3 ≤ status_of (fault_of_source refusal))
-source_statuses (sources.Fault text) = inl refl
-source_statuses sources.TooLong = inl refl
 source_statuses sources.NoMemory = inr (omega arith)
+source_statuses refusal = inl refl
 
 -- so is the fault of a table that a word names
 named_statuses : (named : NamedFault) (fault : Fault) → IsOfNamed named fault → (status_of fault ≡ 1)

@@ -2,8 +2,8 @@
 use Rattle.std.specs.Prelude.{◌≡◌, ℕ}
 use Rattle.command_words.specs.declared.mistake.Mistake.{Mistake}
 use Rattle.command_words.specs.declared.mistake.Mistake.TheVariants as mistakes
-use Rattle.idl_compiler.specs.declared.refusal.CompileRefusal.{CompileRefusal}
-use Rattle.idl_compiler.specs.declared.refusal.CompileRefusal.TheVariants as compile_refusals
+use Rattle.idl_compiler.specs.declared.fault.CompileFault.{CompileFault}
+use Rattle.idl_compiler.specs.declared.fault.CompileFault.TheVariants as compile_refusals
 use Rattle.command_tables.specs.declared.refusal.Refusal.{Refusal}
 use Rattle.command_tables.specs.declared.refusal.Refusal.TheVariants as refusals
 use Rattle.call_commands.specs.Causes.{cause_of}
@@ -50,7 +50,7 @@ status_of Unwritten = 3
 status_of NoMemory = 4
 
 -- what the refusals of other calls are to the program
-abbrev pub fault_of_source : CompileRefusal → Fault
+abbrev pub fault_of_source : CompileFault → Fault
 fault_of_source compile_refusals.NoMemory = NoMemory
 fault_of_source refusal = NotCompiled refusal
 
@@ -73,7 +73,7 @@ fault_of_words mistakes.NoMemory = NoMemory
 fault_of_words mistake = Words mistake
 
 -- the program's fault of an IDL file, with or without what else is known
-abbrev pub IsOfSource : CompileRefusal → Fault → Type 0
+abbrev pub IsOfSource : CompileFault → Fault → Type 0
 IsOfSource refusal (Explained same view) = same ≡ refusal
 IsOfSource refusal fault = fault ≡ fault_of_source refusal
 

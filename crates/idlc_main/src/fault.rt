@@ -11,7 +11,7 @@ use command_files::NamedFault;
 use command_tables::Refusal;
 use command_words::Mistake;
 use giop_dumps::DumpFault;
-use idl_compiler::CompileRefusal;
+use idl_compiler::CompileFault;
 use reference_listing::spelled_references::SpellingFault;
 use std::alloc::AllocError;
 use std::fmt;
@@ -66,34 +66,25 @@ pub enum Fault<'a> {
     Unsaid(TextFault),
     /// The IDL file has no table.
     #[error(transparent)]
-    NotCompiled(CompileRefusal),
+    NotCompiled(CompileFault),
     /// The same, with the lines of what else is known.
     #[error("{refusal}\n{view}")]
-    Explained {
-        refusal: CompileRefusal,
-        view: String,
-    },
+    Explained { refusal: CompileFault, view: String },
     /// A text spells no reference, in digits or as a URL.
     #[error(transparent)]
     NotSpelled(SpellingFault),
     /// A file is no capture of messages.
     #[error("142 BadCapture {}", Plain(.file))]
-    NotCapture {
-        file: &'a str,
-    },
+    NotCapture { file: &'a str },
     /// A line of a capture is none of its form, and no message was told before.
     #[error("142 BadCapture line {line}")]
-    BadLine {
-        line: u64,
-    },
+    BadLine { line: u64 },
     /// Messages of a capture were told, but not to its end.
     #[error(transparent)]
     CutShort(DumpFault),
     /// The object that is to be called has no operation of the name.
     #[error("no operation {}", Plain(.word))]
-    NoOperation {
-        word: &'a str,
-    },
+    NoOperation { word: &'a str },
     /// The arguments are none, or what the server said is no answer.
     #[error(transparent)]
     NotCalled(CallRefusal),
@@ -106,9 +97,7 @@ pub enum Fault<'a> {
     Socket,
     /// No refusal has the number or the name whose meaning is asked for.
     #[error("no refusal has the {}", Meant(.word))]
-    NoRefusal {
-        word: &'a str,
-    },
+    NoRefusal { word: &'a str },
     /// Standard output can't be written, of which no line tells.
     #[error("cannot write")]
     Unwritten,
@@ -204,12 +193,12 @@ impl<'a> From<NamedFault<'a>> for Fault<'a> {
     }
 }
 
-impl<'a> From<CompileRefusal> for Fault<'a> {
+impl<'a> From<CompileFault> for Fault<'a> {
     ghost from_gives = { λ refusal fault. fault ≡ fault_of_source refusal };
 
-    fn from(refusal: CompileRefusal) -> Fault<'a> {
+    fn from(refusal: CompileFault) -> Fault<'a> {
         match refusal {
-            CompileRefusal::NoMemory => Fault::NoMemory,
+            CompileFault::NoMemory => Fault::NoMemory,
             refusal => Fault::NotCompiled(refusal),
         }
     }

@@ -8,7 +8,7 @@ use crate::listener::Listener;
 use command_files::NamedFault;
 use command_tables::{WholeFiles, read_file};
 use diagnostic_views::view;
-use idl_compiler::CompileRefusal;
+use idl_compiler::CompileFault;
 use std::alloc::Global;
 use std::fmt::{self, Formatter};
 
@@ -49,14 +49,13 @@ pub fn source_fault<'a>(
     alloc: Global,
     name: &str,
     source: &[u8],
-    refusal: CompileRefusal,
+    refusal: CompileFault,
     listener: Listener,
 ) -> Fault<'a>
     ensures { IsOfSource refusal result }
 {
     if let Some(look) = listener.look()
-        && let CompileRefusal::Fault { .. } = refusal
-        && let Ok(Some(view)) = view(alloc, look, name, source)
+        && let Ok(Some(view)) = view(alloc, look, name, source, &refusal)
     {
         return Fault::Explained { refusal, view };
     }
@@ -67,7 +66,7 @@ pub fn source_fault<'a>(
 fn source_fault_of<'a, R: WholeFiles + AllocGlobal>(
     rt: &R,
     name: &str,
-    refusal: CompileRefusal,
+    refusal: CompileFault,
     listener: Listener,
 ) -> Fault<'a>
     ensures { IsOfSource refusal result }

@@ -2,11 +2,10 @@
 use Rattle.std.proofs.Common.{◌≡◌, ◌∙◌, ◌<◌, ◌⊎◌, inl, inr, ℕ, zero, suc, ◌+◌, Bool, true, false, nat_eq, List, [], ◌∷◌, ◌++◌, length, get_or, None, Some, refl, sym, ap, subst, arith}
 use Rattle.std.specs.Prelude.{◌&&◌, not}
 use Rattle.std.specs.List.{AllByRecursion, Any, IsDistinct}
-use Rattle.std.specs.Str.{bytes_eq}
+use Rattle.std.specs.Str.{bytes_eq, str_eq_ignore_ascii_case}
 use Rattle.std.proofs.lemmas.Bool.{and_parts, eq-eqb, eqb-true}
 use Rattle.std.proofs.lemmas.List.Quantifiers.{position-Some}
 use Rattle.std.proofs.lemmas.Slice.Eq.{bytes_eq-Decides}
-use Rattle.idl_lexer.specs.Words.{same_but_for_case}
 use Rattle.idl_tree.specs.declared.names.Leaf.{Leaf}
 use Rattle.idl_tree.specs.declared.spec.Spec.{Spec}
 use Rattle.idl_tree.specs.declared.kinds.EntryKind.{EntryKind}
@@ -209,15 +208,15 @@ one_entry : (es : List Entry) (t : ℕ) (m : Leaf) (scope : ℕ) (l : Leaf) (e :
     → is_one_name t m scope l ≡ true
 one_entry es t m scope l e first second =
     let here = get_or es e blank in
-    let one = and_parts (nat_eq t here.scope) (same_but_for_case (word m) here.name)
+    let one = and_parts (nat_eq t here.scope) (str_eq_ignore_ascii_case (word m) here.name)
     (position-Some (is_named t (word m)) es e blank first).1 in
-    let other = and_parts (nat_eq scope here.scope) (same_but_for_case (word l) here.name)
+    let other = and_parts (nat_eq scope here.scope) (str_eq_ignore_ascii_case (word l) here.name)
     (position-Some (is_named scope (word l)) es e blank second).1 in
     let scopes : t ≡ scope = eqb-true t here.scope one.0 ∙ sym (eqb-true scope here.scope other.0) in
     let names : lower (word m) ≡ lower (word l) =
     (bytes_eq-Decides (lower (word m)) (lower here.name)).0 one.1
     ∙ sym ((bytes_eq-Decides (lower (word l)) (lower here.name)).0 other.1) in
-    ap (λ b. b && same_but_for_case (word m) (word l)) (eq-eqb t scope scopes)
+    ap (λ b. b && str_eq_ignore_ascii_case (word m) (word l)) (eq-eqb t scope scopes)
     ∙ (bytes_eq-Decides (lower (word m)) (lower (word l))).1 names
 
 reappears_itself : (kind other : EntryKind) → may_reappear kind other ≡ true → may_reappear kind kind ≡ true

@@ -5,8 +5,8 @@ use Rattle.std.proofs.Common.{arith}
 use Rattle.std.proofs.lemmas.Bool.Decides.{nat_tests}
 use Rattle.std.specs.Char.{is_ascii_alphabetic, to_ascii_lowercase}
 use Rattle.std.specs.List.{AllByRecursion, IsDistinct, flat_map}
+use Rattle.std.specs.Str.{str_eq_ignore_ascii_case}
 use Rattle.std.proofs.lemmas.Slice.Eq.{bytes_eq-Decides}
-use Rattle.idl_lexer.specs.Words.{same_but_for_case}
 use Rattle.idl_tree.specs.declared.names.At.{At}
 use Rattle.idl_tree.specs.declared.types.Declarator.{Declarator}
 use Rattle.idl_tree.specs.declared.types.Member.{Member}
@@ -46,11 +46,11 @@ lower_letter : (c : ℕ) → is_ascii_alphabetic c ≡ true → to_ascii_lowerca
 lower_letter c h is = grind (arith, nat_tests)
 
 other_word : (own n : List ℕ) → slice_index (map to_ascii_lowercase own) 0 ≡ 95
-    → is_ascii_alphabetic (slice_index n 0) ≡ true → same_but_for_case own n ≡ false
+    → is_ascii_alphabetic (slice_index n 0) ≡ true → str_eq_ignore_ascii_case own n ≡ false
 other_word own [] marks h = absurd cc
-other_word own (c ∷ cs) marks h = by (same_but_for_case own (c ∷ cs)) refl
+other_word own (c ∷ cs) marks h = by (str_eq_ignore_ascii_case own (c ∷ cs)) refl
   where
-    by : (b : Bool) → same_but_for_case own (c ∷ cs) ≡ b → b ≡ false
+    by : (b : Bool) → str_eq_ignore_ascii_case own (c ∷ cs) ≡ b → b ≡ false
     by false is = refl
     by true is =
         let same = (bytes_eq-Decides (map to_ascii_lowercase own) (map to_ascii_lowercase (c ∷ cs))).0 is in
@@ -58,7 +58,7 @@ other_word own (c ∷ cs) marks h = by (same_but_for_case own (c ∷ cs)) refl
 
 letters_other : (own : List ℕ) → slice_index (map to_ascii_lowercase own) 0 ≡ 95 → (ns : List (List ℕ))
     → AllByRecursion IsNameWord ns
-    → AllByRecursion (λ n. same_but_for_case own n ≡ false) ns
+    → AllByRecursion (λ n. str_eq_ignore_ascii_case own n ≡ false) ns
 letters_other own marks [] h = tt
 letters_other own marks (n ∷ ns) (h, hs) = (other_word own n marks h.letter, letters_other own marks ns hs)
 

@@ -2,8 +2,8 @@
 use Rattle.std.proofs.Common.{◌≡◌, ◌∙◌, ℕ, Bool, true, false, List, [], ◌∷◌, ◌++◌, map, append_assoc, refl, sym, ap, subst}
 use Rattle.std.specs.Prelude.{◌&&◌}
 use Rattle.std.specs.List.{AllByRecursion, IsDistinct}
+use Rattle.std.specs.Str.{str_eq_ignore_ascii_case}
 use Rattle.std.proofs.lemmas.Bool.{eq-eqb}
-use Rattle.idl_lexer.specs.Words.{same_but_for_case}
 use Rattle.idl_tree.specs.declared.names.Leaf.{Leaf}
 use Rattle.idl_tree.specs.declared.kinds.EntryKind.TheVariants as Kinds
 use Rattle.name_table.specs.Search.{word}
@@ -58,17 +58,18 @@ picked_both s (n ∷ ns) ms xs ys (mid, l, after, is, called, rest) k = (
 )
 
 -- two members of one scope
-members_apart : (s : ℕ) (l m : Leaf) → clashes (Has s l) (Has s m) ≡ false → same_but_for_case (word l) (word m) ≡ false
-members_apart s l m h = ap (λ b. b && same_but_for_case (word l) (word m)) (sym (eq-eqb s s refl)) ∙ h
+members_apart : (s : ℕ) (l m : Leaf) → clashes (Has s l) (Has s m) ≡ false
+    → str_eq_ignore_ascii_case (word l) (word m) ≡ false
+members_apart s l m h = ap (λ b. b && str_eq_ignore_ascii_case (word l) (word m)) (sym (eq-eqb s s refl)) ∙ h
 
 first_apart : (s : ℕ) (l : Leaf) (ns : List (List ℕ)) (xs : List Introduction)
     → AllByRecursion (λ y. clashes (Has s l) y ≡ false) xs → Picked s ns xs
-    → AllByRecursion (λ n. same_but_for_case (word l) n ≡ false) ns
+    → AllByRecursion (λ n. str_eq_ignore_ascii_case (word l) n ≡ false) ns
 first_apart s l [] xs all h = tt
 first_apart s l (n ∷ ns) xs all (mid, m, after, is, called, rest) =
     let parts = all_split (λ y. clashes (Has s l) y ≡ false) mid (Has s m ∷ after)
     (subst (AllByRecursion (λ y. clashes (Has s l) y ≡ false)) is all) in
-    let apart : same_but_for_case (word l) n ≡ false = ap (same_but_for_case (word l)) (sym called)
+    let apart : str_eq_ignore_ascii_case (word l) n ≡ false = ap (str_eq_ignore_ascii_case (word l)) (sym called)
     ∙ members_apart s l m parts.1.0 in
     (apart, first_apart s l ns after parts.1.1 rest)
 
@@ -79,7 +80,8 @@ picked_apart s [] xs d h = tt
 picked_apart s (n ∷ ns) xs d (mid, l, after, is, called, rest) =
     let parts = distinct_split clashes mid (Has s l ∷ after) (subst (IsDistinct clashes) is d) in
     let both = distinct_head clashes (Has s l) after parts.1 in (
-      subst (λ w. AllByRecursion (λ m. same_but_for_case w m ≡ false) ns) called (first_apart s l ns after both.0 rest),
+      subst (λ w. AllByRecursion (λ m. str_eq_ignore_ascii_case w m ≡ false) ns) called
+          (first_apart s l ns after both.0 rest),
       picked_apart s ns after both.1 rest,
     )
 
@@ -102,14 +104,14 @@ and_false true = refl
 and_false false = refl
 
 enumerators_apart : (s : ℕ) (l m : Leaf) → clashes (stands_enumerator s l) (stands_enumerator s m) ≡ false
-    → same_but_for_case (word l) (word m) ≡ false
+    → str_eq_ignore_ascii_case (word l) (word m) ≡ false
 enumerators_apart s l m h =
-    ap (λ b. b && same_but_for_case (word l) (word m)) (sym (eq-eqb s s refl)) ∙ sym (and_false (is_one_name s l s m))
-    ∙ h
+    ap (λ b. b && str_eq_ignore_ascii_case (word l) (word m)) (sym (eq-eqb s s refl))
+    ∙ sym (and_false (is_one_name s l s m)) ∙ h
 
 first_stands : (s : ℕ) (l : Leaf) (ls : List Leaf)
     → AllByRecursion (λ y. clashes (stands_enumerator s l) y ≡ false) (map (stands_enumerator s) ls)
-    → AllByRecursion (λ n. same_but_for_case (word l) n ≡ false) (map word ls)
+    → AllByRecursion (λ n. str_eq_ignore_ascii_case (word l) n ≡ false) (map word ls)
 first_stands s l [] h = tt
 first_stands s l (m ∷ ls) h = (enumerators_apart s l m h.0, first_stands s l ls h.1)
 

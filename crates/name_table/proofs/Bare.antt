@@ -3,8 +3,7 @@ use Rattle.std.proofs.Common.{◌≡◌, ◌∙◌, ℕ, zero, suc, max, ◌+◌
 use Rattle.std.specs.List.{AllByRecursion, IsDistinct}
 use Rattle.std.specs.Option.{option_map}
 use Rattle.std.specs.Char.{to_ascii_lowercase}
-use Rattle.std.specs.Str.{bytes_eq}
-use Rattle.idl_lexer.specs.Words.{same_but_for_case}
+use Rattle.std.specs.Str.{bytes_eq, str_eq_ignore_ascii_case}
 use Rattle.name_table.specs.declared.entry.Base.{Base}
 use Rattle.name_table.specs.declared.search.Found.TheVariants.{Nothing}
 use Rattle.name_table.specs.Entry.{AreDistinct, Entry, bases_of, is_named, named}
@@ -105,7 +104,7 @@ bytes_swap (x ∷ xs) (y ∷ ys) =
 
 named_swap : (a b : Entry) → is_named a.scope a.name b ≡ is_named b.scope b.name a
 named_swap a b =
-    ap (λ c. c && same_but_for_case a.name b.name) (eq_swap a.scope b.scope)
+    ap (λ c. c && str_eq_ignore_ascii_case a.name b.name) (eq_swap a.scope b.scope)
     ∙ ap (λ c. nat_eq b.scope a.scope && c) (bytes_swap (map to_ascii_lowercase a.name) (map to_ascii_lowercase b.name))
 
 new_behind : (es : List Entry) (n : ℕ) (e : Entry) → AreDistinct es → slice_get es n ≡ Some e

@@ -2,11 +2,11 @@
 use Rattle.std.proofs.Common.{◌≡◌, ◌∙◌, ℕ, zero, suc, ◌⊎◌, inl, inr, Bool, true, false, not, cond, nat_eq, List, [], ◌∷◌, get_or, slice_get, Option, Some, None, refl, sym, ap, subst}
 use Rattle.std.specs.Prelude.{◌||◌, nat_lt}
 use Rattle.std.specs.List.{list_any}
+use Rattle.std.specs.Str.{str_eq_ignore_ascii_case}
 use Rattle.std.proofs.lemmas.Bool.{and_parts}
 use Rattle.std.proofs.lemmas.List.Quantifiers.{position-Some}
 use Rattle.std.proofs.lemmas.Option.{slice_get-get_or}
 use Rattle.std.proofs.lemmas.Slice.Eq.{bytes_eq-Decides}
-use Rattle.idl_lexer.specs.Words.{same_but_for_case}
 use Rattle.name_table.specs.declared.entry.Base.{Base}
 use Rattle.idl_tree.specs.declared.kinds.EntryKind.TheVariants.{Module}
 use Rattle.name_table.specs.declared.key.Word.{Word}
@@ -56,7 +56,7 @@ both_ways false false f g = refl
 -- ---- what searches give has the name
 
 abbrev pub HasName : List Entry → ℕ → List ℕ → Type 0
-HasName es k w = (e : Entry) × (slice_get es k ≡ Some e) × (same_but_for_case w e.name ≡ true)
+HasName es k w = (e : Entry) × (slice_get es k ≡ Some e) × (str_eq_ignore_ascii_case w e.name ≡ true)
 
 blank : Entry
 blank = record {
@@ -77,7 +77,7 @@ pub named_at : (es : List Entry) (s : ℕ) (w : List ℕ) (k : ℕ) → named es
 named_at es s w k at =
     let p = position-Some (is_named s w) es k blank at in
     let e = get_or es k blank in
-    (e, slice_get-get_or es k blank p.0, (and_parts (nat_eq s e.scope) (same_but_for_case w e.name) p.1).1)
+    (e, slice_get-get_or es k blank p.0, (and_parts (nat_eq s e.scope) (str_eq_ignore_ascii_case w e.name) p.1).1)
 
 both_one : (x y : Found) (b : ℕ) → both x y ≡ One b → (x ≡ One b) ⊎ (y ≡ One b)
 both_one Nothing y b h = inr h

@@ -6,7 +6,7 @@ use Rattle.name_table.specs.Entries.{latest}
 use Rattle.std.proofs.lemmas.Option.{slice_get-map, slice_get_read, slice_get_within}
 use Rattle.std.specs.Option.{option_map}
 use Rattle.std.specs.Map.{lookup}
-use Rattle.idl_lexer.specs.Words.{same_but_for_case}
+use Rattle.std.specs.Str.{str_eq_ignore_ascii_case}
 use Rattle.name_table.specs.declared.key.Key.{Key}
 use Rattle.name_table.specs.declared.key.Word.{Word}
 use Rattle.name_table.specs.declared.record.Given.{Given}
@@ -124,7 +124,7 @@ module _ (keys : List Key) (records : List Record) (words : List (Vec Word Globa
           → or_place o (cond b (Some (length (entries_in records))) None) ≡ Some k → HasWord (words_at more s) name
       by (Some j) b is t e = kept s name (tied.listed s j name is)
       by None true is t e =
-          let two = and_parts (nat_eq s r.key.scope.0) (same_but_for_case name r.key.word.text.now) t in
+          let two = and_parts (nat_eq s r.key.scope.0) (str_eq_ignore_ascii_case name r.key.word.text.now) t in
           subst (λ x. HasWord (words_at more x) name) (sym (eqb-true s r.key.scope.0 two.0)) (new name two.1)
       by None false is t e = cc
 

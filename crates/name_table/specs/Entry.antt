@@ -1,8 +1,8 @@
 -- A declared name as contracts see it, and scopes. Entries have numbers from 0, in order of declaration. A scope is 0
 -- for the whole file, else one more than the number of the entry whose scope it is.
 use Rattle.std.specs.List.{IsDistinct}
+use Rattle.std.specs.Str.{str_eq_ignore_ascii_case}
 use Rattle.std.specs.Prelude.{◌≡◌, ◌≤◌, ℕ, zero, suc, Bool, ◌&&◌, nat_eq, List, [], position, slice_get, Option, Some, None}
-use Rattle.idl_lexer.specs.Words.{same_but_for_case}
 use Rattle.name_table.specs.declared.const_values.constant.Constant.{Constant}
 use Rattle.name_table.specs.declared.const_values.kind.ConstKind.{ConstKind}
 use Rattle.idl_tree.specs.declared.kinds.EntryKind.{EntryKind}
@@ -25,7 +25,7 @@ pub record Entry : Type 0 where
 
 -- the entry is the scope's of that name, whatever the case of its letters
 abbrev pub is_named : ℕ → List ℕ → Entry → Bool
-is_named scope name e = nat_eq scope e.scope && same_but_for_case name e.name
+is_named scope name e = nat_eq scope e.scope && str_eq_ignore_ascii_case name e.name
 
 -- the number of the scope's entry of that name
 abbrev pub named : List Entry → ℕ → List ℕ → Option ℕ

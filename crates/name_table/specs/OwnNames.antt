@@ -1,6 +1,6 @@
 -- The names that a scope has itself, and in which nothing of the same name is declared.
 use Rattle.std.specs.Prelude.{ℕ, zero, suc, Bool, true, false, ◌&&◌, List, Option, Some, None, slice_get}
-use Rattle.idl_lexer.specs.Words.{same_but_for_case}
+use Rattle.std.specs.Str.{str_eq_ignore_ascii_case}
 use Rattle.idl_tree.specs.declared.kinds.EntryKind.{EntryKind}
 use Rattle.idl_tree.specs.declared.kinds.EntryKind.TheVariants as Entries
 use Rattle.name_table.specs.Entry.{Entry}
@@ -21,7 +21,7 @@ keeps_its_name Entries.Attribute = true
 
 abbrev pub is_named_so : List ℕ → Option Entry → Bool
 is_named_so name None = false
-is_named_so name (Some e) = keeps_its_name e.kind && same_but_for_case e.name name
+is_named_so name (Some e) = keeps_its_name e.kind && str_eq_ignore_ascii_case e.name name
 
 -- the scope's own name
 abbrev pub is_own_name : List Entry → ℕ → List ℕ → Bool

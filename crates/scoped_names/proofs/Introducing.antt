@@ -3,7 +3,7 @@ use Rattle.std.proofs.Common.{◌≡◌, ◌∙◌, ◌<◌, ◌+◌, ◌⊎◌,
 use Rattle.std.specs.Prelude.{◌||◌, if◌then◌else◌}
 use Rattle.std.specs.List.{AllByRecursion, Any, IsDistinct, list_any}
 use Rattle.std.specs.Option.{option_map, option_or}
-use Rattle.std.specs.Str.{bytes_eq}
+use Rattle.std.specs.Str.{bytes_eq, str_eq_ignore_ascii_case}
 use Rattle.std.proofs.lemmas.Bool.{and_parts, eq-eqb, eqb-true}
 use Rattle.std.proofs.Math.ListN.{get_or-append}
 use Rattle.std.proofs.lemmas.List.{get_or-append-add, length-map}
@@ -11,7 +11,6 @@ use Rattle.std.proofs.lemmas.List.Folds.{list_any-append}
 use Rattle.std.proofs.lemmas.List.Quantifiers.{position-Some}
 use Rattle.std.proofs.lemmas.Option.{slice_get-get_or, slice_get-map, slice_get_within}
 use Rattle.std.proofs.lemmas.Slice.Eq.{bytes_eq-Decides}
-use Rattle.idl_lexer.specs.Words.{same_but_for_case}
 use Rattle.idl_tree.specs.declared.names.Leaf.{Leaf}
 use Rattle.idl_tree.specs.declared.names.ScopedName.{ScopedName}
 use Rattle.idl_tree.specs.Starts.{name_start, leaf_at as at}
@@ -108,7 +107,7 @@ abbrev pub known : State → Known
 known st = record { entries = st.entries; members = st.members; defined = st.defined }
 
 abbrev pub has_member : List Member → ℕ → List ℕ → Bool
-has_member members scope name = list_any (λ m. nat_eq scope m.scope && same_but_for_case name m.name) members
+has_member members scope name = list_any (λ m. nat_eq scope m.scope && str_eq_ignore_ascii_case name m.name) members
 
 abbrev pub has_body : List ℕ → ℕ → Bool
 has_body bodies scope = list_any (λ s. nat_eq scope s) bodies
@@ -259,10 +258,10 @@ named_entry es scope name n h =
       e,
       slice_get-get_or es n blank there.0,
       eqb-true scope e.scope
-          (and_parts (nat_eq scope e.scope) (same_but_for_case name e.name) there.1).0,
+          (and_parts (nat_eq scope e.scope) (str_eq_ignore_ascii_case name e.name) there.1).0,
     )
 
-spelled_alike : (a b : List ℕ) → same_but_for_case a b ≡ true → lower a ≡ lower b
+spelled_alike : (a b : List ℕ) → str_eq_ignore_ascii_case a b ≡ true → lower a ≡ lower b
 spelled_alike a b h = (bytes_eq-Decides (lower a) (lower b)).0 h
 
 member_alike : (members : List Member) (scope : ℕ) (a b : List ℕ) → lower a ≡ lower b
@@ -270,26 +269,27 @@ member_alike : (members : List Member) (scope : ℕ) (a b : List ℕ) → lower 
 member_alike members scope a b same =
     ap (λ w. list_any (λ m. nat_eq scope m.scope && bytes_eq w (lower m.name)) members) same
 
-pub same_name : (scope : ℕ) (w : List ℕ) → (nat_eq scope scope && same_but_for_case w w) ≡ true
-same_name scope w = ap (λ b. b && same_but_for_case w w) (eq-eqb scope scope refl)
+pub same_name : (scope : ℕ) (w : List ℕ) → (nat_eq scope scope && str_eq_ignore_ascii_case w w) ≡ true
+same_name scope w = ap (λ b. b && str_eq_ignore_ascii_case w w) (eq-eqb scope scope refl)
     ∙ (bytes_eq-Decides (lower w) (lower w)).1 refl
 
 -- a test of one name in one scope: it fails, or the names are one
 one_name : (scope : ℕ) (l : Leaf) (other : ℕ) (m : Leaf) (rest : Bool)
     → (scope ≡ other → lower (word l) ≡ lower (word m) → rest ≡ false)
     → (is_one_name scope l other m && rest) ≡ false
-one_name scope l other m rest fails = by (nat_eq scope other) (same_but_for_case (word l) (word m)) refl refl
+one_name scope l other m rest fails = by (nat_eq scope other) (str_eq_ignore_ascii_case (word l) (word m)) refl refl
   where
-    by : (a b : Bool) → nat_eq scope other ≡ a → same_but_for_case (word l) (word m) ≡ b → ((a && b) && rest) ≡ false
+    by : (a b : Bool) → nat_eq scope other ≡ a → str_eq_ignore_ascii_case (word l) (word m) ≡ b
+        → ((a && b) && rest) ≡ false
     by false b s n = refl
     by true false s n = refl
     by true true s n = fails (eqb-true scope other s) (spelled_alike (word l) (word m) n)
 
 apart_names : (scope : ℕ) (l : Leaf) (other : ℕ) (m : Leaf) → (scope ≡ other → lower (word l) ≡ lower (word m) → ⊥)
     → is_one_name scope l other m ≡ false
-apart_names scope l other m differ = by (nat_eq scope other) (same_but_for_case (word l) (word m)) refl refl
+apart_names scope l other m differ = by (nat_eq scope other) (str_eq_ignore_ascii_case (word l) (word m)) refl refl
   where
-    by : (a b : Bool) → nat_eq scope other ≡ a → same_but_for_case (word l) (word m) ≡ b → (a && b) ≡ false
+    by : (a b : Bool) → nat_eq scope other ≡ a → str_eq_ignore_ascii_case (word l) (word m) ≡ b → (a && b) ≡ false
     by false b s n = refl
     by true false s n = refl
     by true true s n = absurd (differ (eqb-true scope other s) (spelled_alike (word l) (word m) n))
@@ -307,7 +307,8 @@ is_free l (Some other) u h = absurd cc
 no_member : (members : List Member) (scope : ℕ) (name : List ℕ) → member_named members scope name ≡ None
     → has_member members scope name ≡ false
 no_member [] scope name h = refl
-no_member (m ∷ ms) scope name h = by (nat_eq scope m.scope && same_but_for_case name m.name) (no_member ms scope name) h
+no_member (m ∷ ms) scope name h =
+    by (nat_eq scope m.scope && str_eq_ignore_ascii_case name m.name) (no_member ms scope name) h
   where
     by : (b : Bool) → (member_named ms scope name ≡ None → has_member ms scope name ≡ false)
         → (let o : Option At = if b then Some m.at else member_named ms scope name in o) ≡ None
@@ -468,7 +469,7 @@ member_does st next l h =
       members = λ s name h. any_longer _ st.members _ h;
       defined = λ s h. h;
     } in
-    let last = any_last (λ m. nat_eq st.scope m.scope && same_but_for_case (word l) m.name) st.members _
+    let last = any_last (λ m. nat_eq st.scope m.scope && str_eq_ignore_ascii_case (word l) m.name) st.members _
     (same_name st.scope (word l)) in
     subst (Does st (Has st.scope l ∷ [])) is (record {
       adds = adds_one (known st) (known more) (Has st.scope l) grows last (clash (untaken st (word l) free.0) none)

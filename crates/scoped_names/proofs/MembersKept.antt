@@ -6,7 +6,7 @@ use Rattle.std.specs.Map.{lookup}
 use Rattle.std.specs.Option.{option_or}
 use Rattle.std.specs.Ordering.{is_eq}
 use Rattle.std.specs.Cmp.Lexicographic.{same_text}
-use Rattle.std.specs.Str.{bytes_eq}
+use Rattle.std.specs.Str.{bytes_eq, str_eq_ignore_ascii_case}
 use Rattle.std.specs.Char.{to_ascii_lowercase}
 use Rattle.std.proofs.Math.Seq.{drop-cons}
 use Rattle.std.proofs.lemmas.Bool.{and_parts}
@@ -14,7 +14,6 @@ use Rattle.std.proofs.lemmas.Bool.Decides.{Decides-eqb}
 use Rattle.std.proofs.lemmas.Cmp.{eq_by_cmp_equiv}
 use Rattle.std.proofs.lemmas.Option.{slice_get_past, slice_get_read}
 use Rattle.std.proofs.lemmas.Slice.Eq.{bytes_eq-Decides}
-use Rattle.idl_lexer.specs.Words.{same_but_for_case}
 use Rattle.idl_tree.specs.Starts.{leaf_at}
 use Rattle.idl_tree.specs.declared.names.At.{At}
 use Rattle.idl_tree.specs.declared.names.Leaf.{Leaf}
@@ -141,27 +140,27 @@ behind_kept many k a old new lt read updated s q =
 -- ---- a search among the first
 
 pub case_told : (b : Bool) (one other : List ℕ)
-    → (IsTrue b ↔ (map to_ascii_lowercase one ≡ map to_ascii_lowercase other)) → b ≡ same_but_for_case one other
-case_told b one other told = by b (same_but_for_case one other) refl told
+    → (IsTrue b ↔ (map to_ascii_lowercase one ≡ map to_ascii_lowercase other)) → b ≡ str_eq_ignore_ascii_case one other
+case_told b one other told = by b (str_eq_ignore_ascii_case one other) refl told
   where
-    by : (b c : Bool) → same_but_for_case one other ≡ c
+    by : (b c : Bool) → str_eq_ignore_ascii_case one other ≡ c
         → (IsTrue b ↔ (map to_ascii_lowercase one ≡ map to_ascii_lowercase other)) → b ≡ c
     by true true is told = refl
-    by true false is told = let wrong : same_but_for_case one other ≡ true =
+    by true false is told = let wrong : str_eq_ignore_ascii_case one other ≡ true =
         (bytes_eq-Decides (map to_ascii_lowercase one) (map to_ascii_lowercase other)).1 (told.0 refl) in cc
     by false true is told = let wrong : false ≡ true =
         told.1 ((bytes_eq-Decides (map to_ascii_lowercase one) (map to_ascii_lowercase other)).0 is) in cc
     by false false is told = refl
 
 pub sought_here : (ls : List Leaf) (k : ℕ) (name : List ℕ) (l : Leaf) → k < length ls → l ≡ get_or ls k l
-    → same_but_for_case name (word l) ≡ true
+    → str_eq_ignore_ascii_case name (word l) ≡ true
     → sought (drop k ls) name ≡ Some (leaf_at l)
 sought_here ls k name l lt read same =
     ap (λ xs. sought xs name) (drop-cons ls k l lt ∙ ap (λ x. x ∷ drop (suc k) ls) (sym read))
     ∙ ap (λ b. let o : Option At = if b then Some (leaf_at l) else sought (drop (suc k) ls) name in o) same
 
 pub sought_on : (ls : List Leaf) (k : ℕ) (name : List ℕ) (l : Leaf) → k < length ls → l ≡ get_or ls k l
-    → same_but_for_case name (word l) ≡ false
+    → str_eq_ignore_ascii_case name (word l) ≡ false
     → sought (drop k ls) name ≡ sought (drop (suc k) ls) name
 sought_on ls k name l lt read other =
     ap (λ xs. sought xs name) (drop-cons ls k l lt ∙ ap (λ x. x ∷ drop (suc k) ls) (sym read))
@@ -173,7 +172,7 @@ named_push : (ms : List Member) (m : Member) (scope : ℕ) (name : List ℕ)
     → member_named (ms ++ m ∷ []) scope name ≡ option_or (member_named ms scope name) (member_named (m ∷ []) scope name)
 named_push [] m scope name = refl
 named_push (x ∷ ms) m scope name =
-    by (nat_eq scope x.scope && same_but_for_case name x.name) (named_push ms m scope name)
+    by (nat_eq scope x.scope && str_eq_ignore_ascii_case name x.name) (named_push ms m scope name)
   where
     by : (b : Bool) → member_named (ms ++ m ∷ []) scope name
         ≡ option_or (member_named ms scope name) (member_named (m ∷ []) scope name)
@@ -192,23 +191,24 @@ named_alike [] scope a b same = refl
 named_alike (m ∷ ms) scope a b same =
     ap (λ w. let o : Option At = if nat_eq scope m.scope && bytes_eq w (lower m.name) then Some m.at
     else member_named ms scope a in o) same
-    ∙ ap (λ r. let o : Option At = if nat_eq scope m.scope && same_but_for_case b m.name then Some m.at else r in o)
-    (named_alike ms scope a b same)
+    ∙ ap (λ r. let o : Option At = if nat_eq scope m.scope && str_eq_ignore_ascii_case b m.name then Some m.at else r in
+    o) (named_alike ms scope a b same)
 
 abbrev alone : At → Bool → Option At
 alone a b = if b then Some a else None
 
 -- one more among the first
 sought_push : (ls : List Leaf) (l : Leaf) (name : List ℕ)
-    → sought (ls ++ l ∷ []) name ≡ option_or (sought ls name) (alone (leaf_at l) (same_but_for_case name (word l)))
+    → sought (ls ++ l ∷ []) name ≡ option_or (sought ls name)
+    (alone (leaf_at l) (str_eq_ignore_ascii_case name (word l)))
 sought_push [] l name = refl
-sought_push (x ∷ ls) l name = by (same_but_for_case name (word x)) (sought_push ls l name)
+sought_push (x ∷ ls) l name = by (str_eq_ignore_ascii_case name (word x)) (sought_push ls l name)
   where
     by : (b : Bool) → sought (ls ++ l ∷ []) name
-        ≡ option_or (sought ls name) (alone (leaf_at l) (same_but_for_case name (word l)))
+        ≡ option_or (sought ls name) (alone (leaf_at l) (str_eq_ignore_ascii_case name (word l)))
         → (let o : Option At = if b then Some (leaf_at x) else sought (ls ++ l ∷ []) name in o)
         ≡ option_or (let o : Option At = if b then Some (leaf_at x) else sought ls name in o)
-        (alone (leaf_at l) (same_but_for_case name (word l)))
+        (alone (leaf_at l) (str_eq_ignore_ascii_case name (word l)))
     by true is = refl
     by false is = is
 
@@ -218,11 +218,11 @@ or_none (Some a) = refl
 
 sought_with : (scope : ℕ) (l : Leaf) (ls : List Leaf) (s : ℕ) (name : List ℕ)
     → sought (leaves_with scope l ls s) name
-    ≡ option_or (sought ls name) (alone (leaf_at l) (nat_eq s scope && same_but_for_case name (word l)))
+    ≡ option_or (sought ls name) (alone (leaf_at l) (nat_eq s scope && str_eq_ignore_ascii_case name (word l)))
 sought_with scope l ls s name = by (nat_eq s scope)
   where
     by : (b : Bool) → sought (let r : List Leaf = if b then ls ++ l ∷ [] else ls in r) name
-        ≡ option_or (sought ls name) (alone (leaf_at l) (b && same_but_for_case name (word l)))
+        ≡ option_or (sought ls name) (alone (leaf_at l) (b && str_eq_ignore_ascii_case name (word l)))
     by true = sought_push ls l name
     by false = sym (or_none (sought ls name))
 
@@ -244,11 +244,11 @@ module _ (ms : List Member) (few : List (Vec Leaf Global)) (many : List (BTreeMa
     (found : AreFound ms few many) (scope : ℕ) (l : Leaf)
     (fresh : member_named ms scope (word l) ≡ None) where
   abbrev is_it : ℕ → Word → Bool
-  is_it s q = nat_eq s scope && same_but_for_case q.text.now (word l)
+  is_it s q = nat_eq s scope && str_eq_ignore_ascii_case q.text.now (word l)
 
   none_yet : (s : ℕ) (q : Word) → is_it s q ≡ true → member_named ms s q.text.now ≡ None
   none_yet s q is =
-      let two = and_parts (nat_eq s scope) (same_but_for_case q.text.now (word l)) is in
+      let two = and_parts (nat_eq s scope) (str_eq_ignore_ascii_case q.text.now (word l)) is in
       let here : s ≡ scope = (Decides-eqb s scope).0 two.0 in
       let like : lower q.text.now ≡ lower (word l) = (bytes_eq-Decides (lower q.text.now) (lower (word l))).0 two.1 in
       ap (λ k. member_named ms k q.text.now) here ∙ named_alike ms scope q.text.now (word l) like ∙ fresh
@@ -273,12 +273,12 @@ module _ (ms : List Member) (few : List (Vec Leaf Global)) (many : List (BTreeMa
       let y = lookup (is_at (word_cmp q)) (places_at many s) in
       let same : (nat_eq s k.scope.0 && is_eq (word_cmp k.word q)) ≡ is_it s q =
       ap (λ n. nat_eq s n && is_eq (word_cmp k.word q)) here
-      ∙ ap (λ b. nat_eq s scope && b) (word_is k q ∙ ap (same_but_for_case q.text.now) named) in
+      ∙ ap (λ b. nat_eq s scope && b) (word_is k q ∙ ap (str_eq_ignore_ascii_case q.text.now) named) in
       ap (option_or x) (kept s q ∙ ap (λ t. cond t (Some (leaf_at l)) y) same)
       ∙ mixed_behind x y (member_named ms s q.text.now) (leaf_at l) (is_it s q) (found s q) (none_yet s q)
       ∙ sym (named_push ms (member_of scope l) s q.text.now)
     where
-      word_is : (k : Key) (q : Word) → is_eq (word_cmp k.word q) ≡ same_but_for_case q.text.now k.word.text.now
+      word_is : (k : Key) (q : Word) → is_eq (word_cmp k.word q) ≡ str_eq_ignore_ascii_case q.text.now k.word.text.now
       word_is k q = sym ((eq_by_cmp_equiv word_cmp_total).symm q k.word) ∙ word_found q k.word
 
 -- the same members, kept otherwise

@@ -1,10 +1,9 @@
 -- The faults of a specification's names (ISO/IEC 19500-1, names and scoping, and pragma directives for repository ids):
 -- each step, where `st` is what is known before it, gives what is known behind it, or its fault.
 use Rattle.std.specs.Prelude.{ℕ, zero, suc, Bool, true, false, not, ◌&&◌, if◌then◌else◌, nat_eq, List, [], ◌∷◌, ◌++◌, Option, Some, None, Result, Ok, Err, length, slice_get}
-use Rattle.std.specs.Str.{bytes_eq}
+use Rattle.std.specs.Str.{bytes_eq, str_eq_ignore_ascii_case}
 use Rattle.std.specs.List.{list_any}
 use Rattle.std.specs.Option.{option_or}
-use Rattle.idl_lexer.specs.Words.{same_but_for_case}
 use Rattle.idl_lexer.specs.Identifiers.{words}
 use Rattle.idl_tree.specs.declared.names.Leaf.{Leaf}
 use Rattle.idl_tree.specs.declared.names.ScopedName.{ScopedName}
@@ -52,7 +51,7 @@ own_at es scope name = (if is_own_name es scope name then scope_at es scope else
 abbrev pub member_named : List Field → ℕ → List ℕ → Option At
 member_named [] scope name = None
 member_named (m ∷ ms) scope name =
-    (if nat_eq scope m.scope && same_but_for_case name m.name then Some m.at else member_named ms scope name)
+    (if nat_eq scope m.scope && str_eq_ignore_ascii_case name m.name then Some m.at else member_named ms scope name)
 
 -- the scope itself has the name, or a member or a parameter of it
 abbrev pub taken_by : State → List ℕ → Option At

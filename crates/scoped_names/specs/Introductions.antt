@@ -1,8 +1,7 @@
 -- What a specification introduces (ISO/IEC 19500-1, names and scoping), in order of reading: identifiers in scopes, the
 -- members and parameters that scopes have, and bodies. `es` are the entries of the whole, by which scopes have numbers.
 use Rattle.std.specs.Prelude.{◌≡◌, ℕ, Bool, false, not, ◌&&◌, nat_eq, List, [], ◌∷◌, ◌++◌, slice_get, Some}
-use Rattle.std.specs.Str.{bytes_eq}
-use Rattle.idl_lexer.specs.Words.{same_but_for_case}
+use Rattle.std.specs.Str.{bytes_eq, str_eq_ignore_ascii_case}
 use Rattle.idl_tree.specs.declared.names.Leaf.{Leaf}
 use Rattle.idl_tree.specs.declared.kinds.EntryKind.{EntryKind}
 use Rattle.idl_tree.specs.declared.kinds.EntryKind.TheVariants as Entries
@@ -47,7 +46,7 @@ introduced es scope (s ∷ steps) = introduced_by scope s ++ introduced es (scop
 
 -- one name in one scope, whatever the case of its letters
 abbrev pub is_one_name : ℕ → Leaf → ℕ → Leaf → Bool
-is_one_name scope l other m = nat_eq scope other && same_but_for_case (word l) (word m)
+is_one_name scope l other m = nat_eq scope other && str_eq_ignore_ascii_case (word l) (word m)
 
 -- what can't stand behind what stands before it
 abbrev pub clashes : Introduction → Introduction → Bool

@@ -2,11 +2,11 @@
 -- the enumerators of an enumeration. A node whose parts have no names has none.
 use Rattle.std.specs.Prelude.{ℕ, List, [], Option, Some, None, slice_get}
 use Rattle.std.specs.List.{IsDistinct}
-use Rattle.idl_lexer.specs.Words.{same_but_for_case}
+use Rattle.std.specs.Str.{str_eq_ignore_ascii_case}
 
 -- no two names are equal but for case (ISO/IEC 19500-1, identifiers)
 abbrev pub AreApart : List (List ℕ) → Type 0
-AreApart names = IsDistinct same_but_for_case names
+AreApart names = IsDistinct str_eq_ignore_ascii_case names
 
 abbrev pub or_none : Option (List (List ℕ)) → List (List ℕ)
 or_none None = []

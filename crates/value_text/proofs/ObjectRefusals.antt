@@ -2,6 +2,7 @@
 use Rattle.std.proofs.Common.{◌≡◌, ◌⊎◌, inl, inr, ℕ, zero, suc, ◌≤◌, Bool, true, false, List, [], ◌∷◌, ◌++◌, length, drop, map, zip, Option, Some, None, slice_get, refl, sym, ap, ap₂, ◌∙◌, subst, append_assoc, arith}
 use Rattle.std.specs.Prelude.{IsPermutation, sum_by, bytes_eq, if◌then◌else◌}
 use Rattle.std.specs.List.{AllByRecursion}
+use Rattle.std.specs.Str.{str_eq_ignore_ascii_case}
 use Rattle.std.proofs.lemmas.Bool.{false≢true}
 use Rattle.std.proofs.lemmas.List.{append_cancel_right, append-nil}
 use Rattle.std.proofs.lemmas.List.Sorted.{length_permutation, sum_by-IsPermutation}
@@ -10,7 +11,6 @@ use Rattle.std.proofs.lemmas.Map.Keys.{IsDistinct-head, IsDistinct-tail}
 use Rattle.std.proofs.lemmas.Option.{same_Some}
 use Rattle.std.proofs.lemmas.Slice.Eq.{bytes_eq-Decides}
 use Rattle.json.specs.Token.{Token, key, end_object}
-use Rattle.idl_lexer.specs.Words.{same_but_for_case}
 use Rattle.type_model.specs.PartNamesNames.{names_at, AreApart}
 use Rattle.type_graph.specs.declared.node.Node.{Node}
 use Rattle.type_graph.specs.Value.{Tree, Trees, NoTree, AndTree, node_at, Fits, FitAll}
@@ -46,7 +46,7 @@ uncalled label pair differs =
 
 -- not among names that differ from it
 not_again : (label : List ℕ) (labels : List (List ℕ)) (texts : List (List Token))
-    → AllByRecursion (λ name. same_but_for_case label name ≡ false) labels
+    → AllByRecursion (λ name. str_eq_ignore_ascii_case label name ≡ false) labels
     → sum_by (is_called label) (zip labels texts) ≡ 0
 not_again label [] texts apart = refl
 not_again label (name ∷ labels) [] apart = refl
@@ -54,8 +54,8 @@ not_again label (name ∷ labels) (text ∷ texts) apart =
     let f = is_called label in
     let pair : List ℕ × List Token = (name, text) in
     let split = sum_by-cons f pair (zip labels texts) in
-    let other = uncalled label pair (λ e. false≢true (sym apart.0 ∙ ap (same_but_for_case label) e ∙ same_itself label))
-    in
+    let other = uncalled label pair
+    (λ e. false≢true (sym apart.0 ∙ ap (str_eq_ignore_ascii_case label) e ∙ same_itself label)) in
     let rest = not_again label labels texts apart.1 in
     omega (arith, split, other, rest)
 
@@ -65,7 +65,7 @@ at_most_once label [] texts apart = omega arith
 at_most_once label (name ∷ labels) [] apart = omega arith
 at_most_once label (name ∷ labels) (text ∷ texts) apart =
     by_name (bytes_eq name label) refl
-    (at_most_once label labels texts (IsDistinct-tail same_but_for_case name labels apart))
+    (at_most_once label labels texts (IsDistinct-tail str_eq_ignore_ascii_case name labels apart))
   where
     by_name : (b : Bool) → bytes_eq name label ≡ b → sum_by (is_called label) (zip labels texts) ≤ 1
         → sum_by (is_called label) (zip (name ∷ labels) (text ∷ texts)) ≤ 1
@@ -75,8 +75,8 @@ at_most_once label (name ∷ labels) (text ∷ texts) apart =
         let same = (bytes_eq-Decides name label).0 e in
         let one = called label pair same in
         let rest = not_again label labels texts
-        (subst (λ l. AllByRecursion (λ other. same_but_for_case l other ≡ false) labels) same
-        (IsDistinct-head same_but_for_case name labels apart)) in
+        (subst (λ l. AllByRecursion (λ other. str_eq_ignore_ascii_case l other ≡ false) labels) same
+        (IsDistinct-head str_eq_ignore_ascii_case name labels apart)) in
         omega (arith, split, one, rest)
     by_name false e more =
         let pair : List ℕ × List Token = (name, text) in
@@ -233,12 +233,12 @@ module _ (names : List (List (List ℕ))) (graph : List Node) (depth : ℕ) wher
 
   -- a name that differs from all is no member's
   other_name : (first : List ℕ) (labels : List (List ℕ)) (numbers : List ℕ) (pair : List ℕ × List Token)
-      → AllByRecursion (λ name. same_but_for_case first name ≡ false) labels
+      → AllByRecursion (λ name. str_eq_ignore_ascii_case first name ≡ false) labels
       → IsMember labels numbers pair → first ≡ pair.0 → ⊥
   other_name first [] numbers pair apart m e = absurd m
   other_name first (label ∷ labels) [] pair apart m e = absurd m
   other_name first (label ∷ labels) (number ∷ numbers) pair apart (inl m) e =
-      false≢true (sym apart.0 ∙ ap (same_but_for_case first) (m.0 ∙ sym e) ∙ same_itself first)
+      false≢true (sym apart.0 ∙ ap (str_eq_ignore_ascii_case first) (m.0 ∙ sym e) ∙ same_itself first)
   other_name first (label ∷ labels) (number ∷ numbers) pair apart (inr m) e =
       other_name first labels numbers pair apart.1 m e
 
@@ -250,11 +250,13 @@ module _ (names : List (List (List ℕ))) (graph : List Node) (depth : ℕ) wher
   same_member (label ∷ labels) [] p q apart m k e = absurd m
   same_member (label ∷ labels) (number ∷ numbers) p q apart (inl m) (inl k) e = (number, m.1, k.1)
   same_member (label ∷ labels) (number ∷ numbers) p q apart (inl m) (inr k) e =
-      absurd (other_name label labels numbers q (IsDistinct-head same_but_for_case label labels apart) k (m.0 ∙ e))
+      absurd (other_name label labels numbers q (IsDistinct-head str_eq_ignore_ascii_case label labels apart) k
+      (m.0 ∙ e))
   same_member (label ∷ labels) (number ∷ numbers) p q apart (inr m) (inl k) e =
-      absurd (other_name label labels numbers p (IsDistinct-head same_but_for_case label labels apart) m (k.0 ∙ sym e))
+      absurd (other_name label labels numbers p (IsDistinct-head str_eq_ignore_ascii_case label labels apart) m
+      (k.0 ∙ sym e))
   same_member (label ∷ labels) (number ∷ numbers) p q apart (inr m) (inr k) e =
-      same_member labels numbers p q (IsDistinct-tail same_but_for_case label labels apart) m k e
+      same_member labels numbers p q (IsDistinct-tail str_eq_ignore_ascii_case label labels apart) m k e
 
   -- the part at the place of a name
   member_at : (labels : List (List ℕ)) (numbers : List ℕ) (pair : List ℕ × List Token) (place : ℕ) → AreApart labels
@@ -265,13 +267,13 @@ module _ (names : List (List (List ℕ))) (graph : List Node) (depth : ℕ) wher
   member_at (label ∷ labels) [] pair place apart m e = absurd m
   member_at (label ∷ labels) (number ∷ numbers) pair zero apart (inl m) e = (number, refl, m.1)
   member_at (label ∷ labels) (number ∷ numbers) pair zero apart (inr m) e =
-      absurd (other_name label labels numbers pair (IsDistinct-head same_but_for_case label labels apart) m
+      absurd (other_name label labels numbers pair (IsDistinct-head str_eq_ignore_ascii_case label labels apart) m
       (same_Some label pair.0 e))
   member_at (label ∷ labels) (number ∷ numbers) pair (suc place) apart (inl m) e =
-      absurd (two_places label labels place pair.0 (IsDistinct-head same_but_for_case label labels apart) (ap Some m.0)
-      e)
+      absurd (two_places label labels place pair.0 (IsDistinct-head str_eq_ignore_ascii_case label labels apart)
+      (ap Some m.0) e)
   member_at (label ∷ labels) (number ∷ numbers) pair (suc place) apart (inr m) e =
-      member_at labels numbers pair place (IsDistinct-tail same_but_for_case label labels apart) m e
+      member_at labels numbers pair place (IsDistinct-tail str_eq_ignore_ascii_case label labels apart) m e
 
   -- a member's name is one of the names
   name_there : (labels : List (List ℕ)) (numbers : List ℕ) (pair : List ℕ × List Token) → IsMember labels numbers pair

@@ -4,6 +4,7 @@ use Rattle.std.specs.Prelude.{decimal, if◌then◌else◌}
 use Rattle.std.specs.List.{AllByRecursion}
 use Rattle.std.specs.Fmt.{signed_decimal}
 use Rattle.std.specs.Char.{to_ascii_lowercase}
+use Rattle.std.specs.Str.{str_eq_ignore_ascii_case}
 use Rattle.std.proofs.lemmas.Bool.{false≢true, lt-ltb}
 use Rattle.std.proofs.lemmas.Fmt.{decimal_is_IsNumeral_wide}
 use Rattle.std.proofs.lemmas.Str.Parse.{digit_at}
@@ -14,7 +15,6 @@ use Rattle.std.proofs.lemmas.Map.Keys.{IsDistinct-head, IsDistinct-tail}
 use Rattle.std.specs.Str.Parse.{digits_value}
 use lib.Signed.{mag}
 use Rattle.json.specs.Token.{Token, string, number, boolean, key}
-use Rattle.idl_lexer.specs.Words.{same_but_for_case}
 use Rattle.type_model.specs.PartNamesNames.{AreApart}
 use Rattle.type_graph.specs.declared.width.Width.TheVariants.{One, Two, Four, Eight}
 use Rattle.type_graph.specs.declared.node.Node.{Node}
@@ -88,7 +88,7 @@ is_short (Enum limit) (negsuc n) low h = absurd h
 is_short node n low h = absurd h
 
 -- a name stands at one place
-pub same_itself : (name : List ℕ) → same_but_for_case name name ≡ true
+pub same_itself : (name : List ℕ) → str_eq_ignore_ascii_case name name ≡ true
 same_itself name = (bytes_eq-Decides (map to_ascii_lowercase name) (map to_ascii_lowercase name)).1 refl
 
 pub all_at : {X : Type 0} (P : X → Type 0) (xs : List X) (i : ℕ) (x : X) → AllByRecursion P xs → slice_get xs i ≡ Some x
@@ -102,22 +102,22 @@ all_at P (first ∷ xs) zero x h e = subst P (same_Some first x e) h.0
 all_at P (first ∷ xs) (suc i) x h e = all_at P xs i x h.1 e
 
 pub two_places : (first : List ℕ) (names : List (List ℕ)) (i : ℕ) (name : List ℕ)
-    → AllByRecursion (λ other. same_but_for_case first other ≡ false) names
+    → AllByRecursion (λ other. str_eq_ignore_ascii_case first other ≡ false) names
     → Some first ≡ Some name → slice_get names i ≡ Some name → ⊥
 two_places first names i name h e f =
-    false≢true (sym (all_at (λ other. same_but_for_case first other ≡ false) names i name h f)
-    ∙ ap (λ l. same_but_for_case l name) (same_Some first name e) ∙ same_itself name)
+    false≢true (sym (all_at (λ other. str_eq_ignore_ascii_case first other ≡ false) names i name h f)
+    ∙ ap (λ l. str_eq_ignore_ascii_case l name) (same_Some first name e) ∙ same_itself name)
 
 pub one_place : (names : List (List ℕ)) (i j : ℕ) (name : List ℕ) → AreApart names → slice_get names i ≡ Some name
     → slice_get names j ≡ Some name → i ≡ j
 one_place [] i j name apart e f = absurd (all_at (λ x. ⊥) [] i name tt e)
 one_place (first ∷ names) zero zero name apart e f = refl
 one_place (first ∷ names) zero (suc j) name apart e f =
-    absurd (two_places first names j name (IsDistinct-head same_but_for_case first names apart) e f)
+    absurd (two_places first names j name (IsDistinct-head str_eq_ignore_ascii_case first names apart) e f)
 one_place (first ∷ names) (suc i) zero name apart e f =
-    absurd (two_places first names i name (IsDistinct-head same_but_for_case first names apart) f e)
+    absurd (two_places first names i name (IsDistinct-head str_eq_ignore_ascii_case first names apart) f e)
 one_place (first ∷ names) (suc i) (suc j) name apart e f =
-    ap suc (one_place names i j name (IsDistinct-tail same_but_for_case first names apart) e f)
+    ap suc (one_place names i j name (IsDistinct-tail str_eq_ignore_ascii_case first names apart) e f)
 
 pub label_one : (labels : List (List ℕ)) (m n : ℤ) (label : List ℕ) → AreApart labels → label_of labels m ≡ Some label
     → label_of labels n ≡ Some label → m ≡ n

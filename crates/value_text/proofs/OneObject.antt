@@ -2,12 +2,12 @@
 use Rattle.std.proofs.Common.{◌≡◌, ◌⊎◌, inl, inr, ℕ, false, List, [], ◌∷◌, ◌++◌, drop, map, refl, sym, ap, ◌∙◌, subst, append_assoc}
 use Rattle.std.specs.Prelude.{IsPermutation}
 use Rattle.std.specs.List.{AllByRecursion}
+use Rattle.std.specs.Str.{str_eq_ignore_ascii_case}
 use Rattle.std.proofs.lemmas.Bool.{false≢true}
 use Rattle.std.proofs.lemmas.List.Sorted.{IsPermutation-sym, All-permutation}
 use Rattle.std.proofs.lemmas.Map.Keys.{IsDistinct-head, IsDistinct-tail}
 use Rattle.std.proofs.lemmas.List.Elements.{All-from_recursion, recursion_from_All}
 use Rattle.json.specs.Token.{Token, key, end_object, bad}
-use Rattle.idl_lexer.specs.Words.{same_but_for_case}
 use Rattle.type_model.specs.PartNamesNames.{AreApart}
 use Rattle.type_graph.specs.Value.{Tree}
 use Rattle.value_text.specs.Pieces.{paired}
@@ -65,24 +65,24 @@ abbrev pub IsSame : Part → Type 0
 IsSame part = part.value ≡ part.other
 
 elsewhere : (p : Part) (parts : List Part) (b : Part)
-    → AllByRecursion (λ name. same_but_for_case p.label name ≡ false) (map label_of_part parts) → In b parts
+    → AllByRecursion (λ name. str_eq_ignore_ascii_case p.label name ≡ false) (map label_of_part parts) → In b parts
     → p.label ≡ b.label → ⊥
 elsewhere p parts b apart j e =
-    false≢true (sym (in_all label_of_part (λ name. same_but_for_case p.label name ≡ false) parts b apart j)
-    ∙ ap (λ l. same_but_for_case l b.label) e ∙ same_itself b.label)
+    false≢true (sym (in_all label_of_part (λ name. str_eq_ignore_ascii_case p.label name ≡ false) parts b apart j)
+    ∙ ap (λ l. str_eq_ignore_ascii_case l b.label) e ∙ same_itself b.label)
 
 distinct : (parts : List Part) → AreApart (map label_of_part parts) → (a b : Part) → In a parts → In b parts
     → a.label ≡ b.label → a ≡ b
 distinct [] apart a b i j e = absurd i
 distinct (p ∷ parts) apart a b (inl h) (inl k) e = h ∙ sym k
 distinct (p ∷ parts) apart a b (inl h) (inr j) e =
-    absurd (elsewhere p parts b (IsDistinct-head same_but_for_case p.label (map label_of_part parts) apart) j
+    absurd (elsewhere p parts b (IsDistinct-head str_eq_ignore_ascii_case p.label (map label_of_part parts) apart) j
     (ap label_of_part (sym h) ∙ e))
 distinct (p ∷ parts) apart a b (inr i) (inl k) e =
-    absurd (elsewhere p parts a (IsDistinct-head same_but_for_case p.label (map label_of_part parts) apart) i
+    absurd (elsewhere p parts a (IsDistinct-head str_eq_ignore_ascii_case p.label (map label_of_part parts) apart) i
     (ap label_of_part (sym k) ∙ sym e))
 distinct (p ∷ parts) apart a b (inr i) (inr j) e =
-    distinct parts (IsDistinct-tail same_but_for_case p.label (map label_of_part parts) apart) a b i j e
+    distinct parts (IsDistinct-tail str_eq_ignore_ascii_case p.label (map label_of_part parts) apart) a b i j e
 
 module _ (all : List Part) (apart : AreApart (map label_of_part all)) where
   -- a pair is that of one of the parts

@@ -2,9 +2,9 @@
 use Rattle.std.specs.Prelude.{◌≡◌, ℕ, zero, suc, ◌<◌, ◌≤◌, Bool, true, cond, nat_lt, map, List, [], ◌∷◌, slice_get, length, Option, Some, None, Vec, Box}
 use Rattle.std.specs.declared.alloc.Global.{Global}
 use Rattle.std.specs.Map.{lookup}
+use Rattle.std.specs.Str.{str_eq_ignore_ascii_case}
 use Rattle.name_table.specs.declared.const_values.constant.Constant.{Constant}
 use Rattle.name_table.specs.declared.const_values.kind.ConstKind.{ConstKind}
-use Rattle.idl_lexer.specs.Words.{same_but_for_case}
 use Rattle.name_table.specs.declared.entry.Base.{Base}
 use Rattle.name_table.specs.declared.key.Key.{Key}
 use Rattle.name_table.specs.declared.key.Word.{Word}
@@ -57,7 +57,7 @@ abbrev pub given_before : ℕ → Given → Found
 given_before token g = cond (nat_lt g.token token) (alone_or_not token g.entry g.clash) Nothing
 
 abbrev pub is_word : List ℕ → Word → Bool
-is_word name w = same_but_for_case name w.text.now
+is_word name w = str_eq_ignore_ascii_case name w.text.now
 
 -- what the first base gives, where it is named before the token
 abbrev pub by_first : List Entry → ℕ → List ℕ → Base → Found

@@ -4,7 +4,7 @@ use Rattle.std.specs.declared.alloc.Global.{Global}
 use Rattle.std.specs.BTreeMap.{BTreeMap, is_at}
 use Rattle.std.specs.Map.{lookup}
 use Rattle.std.specs.Option.{option_or}
-use Rattle.idl_lexer.specs.Words.{same_but_for_case}
+use Rattle.std.specs.Str.{str_eq_ignore_ascii_case}
 use Rattle.idl_tree.specs.Starts.{leaf_at}
 use Rattle.idl_tree.specs.declared.names.At.{At}
 use Rattle.idl_tree.specs.declared.names.Leaf.{Leaf}
@@ -42,7 +42,7 @@ leaves_at few scope = leaves_in (slice_get few scope)
 -- where the first stands that has the name
 abbrev pub sought : List Leaf → List ℕ → Option At
 sought [] name = None
-sought (l ∷ ls) name = (if same_but_for_case name (word l) then Some (leaf_at l) else sought ls name)
+sought (l ∷ ls) name = (if str_eq_ignore_ascii_case name (word l) then Some (leaf_at l) else sought ls name)
 
 -- of a scope, where one more is kept of this scope
 abbrev pub leaves_with : ℕ → Leaf → List Leaf → ℕ → List Leaf

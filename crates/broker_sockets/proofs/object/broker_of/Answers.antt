@@ -4,5 +4,5 @@ use Rattle.broker_sockets.proofs.object.broker_of.Goals as goal
 
 pub new-requires : goal.new-requires
 new-requires c =
-    lone_served c.args.table.model c.args.word.now (objects_of c.in-Ok.objects.items) c.in-Ok.keeper
-    c.in-Ok.ensures.made
+    lone_served c.args.table.model c.args.word.now (objects_of c.in_ok-objects.objects.items) c.in_ok-objects.keeper
+    c.in_ok-objects.ensures.made

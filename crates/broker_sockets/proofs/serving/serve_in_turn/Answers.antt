@@ -1,7 +1,7 @@
 use Rattle.broker_sockets.proofs.Counts.{all_came}
 use Rattle.broker_sockets.proofs.serving.serve_in_turn.Goals as goal
 
-pub returns-in-Ok-clause-done : goal.returns-in-Ok-clause-done
-returns-in-Ok-clause-done g c =
+pub returns-clause-done : goal.returns-clause-done
+returns-clause-done g c =
     all_came c.args.table.model c.args.options.now.object.now c.args.options.now.connections c.new-loopback.result.count
-    c.serve_at.new.listener.count c.new-loopback.ensures c.in-Ok.ensures.done
+    c.serve_at.new.listener.count c.new-loopback.ensures c.in_ok-serve_at.ensures.done

@@ -2,8 +2,8 @@ use Rattle.std.proofs.Common.{◌*◌}
 use Rattle.broker_sockets.proofs.Counts.{many_came}
 use Rattle.broker_sockets.proofs.serving.serve_many.Goals as goal
 
-pub returns-in-Ok-serve_many_at-clause-done : goal.returns-in-Ok-serve_many_at-clause-done
-returns-in-Ok-serve_many_at-clause-done g c =
+pub returns-clause-done : goal.returns-clause-done
+returns-clause-done g c =
     many_came c.args.table.model c.args.options.now.object.now c.args.options.now.connections
     (c.args.options.now.idle * 1000)
-    c.serve_many_at.new.listener.count c.in-Ok-serve_many_at.ensures.done c.in-Ok-serve_many_at.ensures.count
+    c.serve_many_at.new.listener.count c.in_ok-serve_many_at.ensures.done c.in_ok-serve_many_at.ensures.count

@@ -10,13 +10,14 @@ returns-clause-done g c =
     let word = c.args.options.now.object.now in
     subst (λ (n : ℕ). OnOk c.serve_by.result (IsDoneTogether told c.args.table.model word (n * 1000) came))
     c.from-idle.ensures
-    (together_on_ok c.args.table.model word told c.serve_by.result c.in-Ok.broker (c.from-idle.result * 1000) came
-    c.serve_by.new.broker.world.servant c.in-Ok.ensures.made c.serve_by.ensures.done)
+    (together_on_ok c.args.table.model word told c.serve_by.result c.in_ok-broker.broker (c.from-idle.result * 1000)
+    came
+    c.serve_by.new.broker.world.servant c.in_ok-broker.ensures.made c.serve_by.ensures.done)
 
 pub returns-clause-refused : goal.returns-clause-refused
 returns-clause-refused g c =
     faults_have_causes c.args.table.model c.args.options.now.object.now c.serve_by.result c.serve_by.ensures.later
-    (has_object c.args.table.model c.args.options.now.object.now c.in-Ok.broker c.in-Ok.ensures.made)
+    (has_object c.args.table.model c.args.options.now.object.now c.in_ok-broker.broker c.in_ok-broker.ensures.made)
 
 pub returns-clause-silent : goal.returns-clause-silent
 returns-clause-silent g c =

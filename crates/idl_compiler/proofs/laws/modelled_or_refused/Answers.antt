@@ -3,7 +3,7 @@ use Rattle.idl_tree.specs.declared.definitions.Definition.{Definition}
 use Rattle.model_builder.specs.Shown.{Shows}
 use Rattle.type_model.specs.ModelRules.{Parts}
 use Rattle.idl_compiler.specs.declared.fault.CompileFault.{CompileFault}
-use Rattle.idl_compiler.specs.declared.fault.CompileFault.TheVariants.{Tokens, Grammar, Names, Types, NoMemory}
+use Rattle.idl_compiler.specs.declared.fault.CompileFault.TheVariants.{Tokens, Grammar, Names, Types, TooLong, NoMemory}
 use Rattle.idl_compiler.specs.Compiled.{IsModelOf}
 use Rattle.idl_compiler.specs.Refused.{IsFaultOf}
 use Rattle.idl_compiler.proofs.laws.modelled_or_refused.Goals as goal
@@ -20,4 +20,5 @@ returns c = λ definitions model fault m f. by definitions model fault m f
         let same = c.names_are_one.ensures definitions m.names f.names m.named f.named in
         absurd (c.shown_or_refused.ensures definitions f.names model t
         (subst (λ n. Shows definitions n model) same m.shows) f.is)
+    by definitions model TooLong m f = absurd f
     by definitions model NoMemory m f = refl

@@ -1,7 +1,7 @@
 use Rattle.std.proofs.Common.{◌≢◌, ℕ, List, refl}
 use Rattle.idl_compiler.specs.declared.choice.Settled.{Settled}
 use Rattle.idl_compiler.specs.declared.fault.CompileFault.{CompileFault}
-use Rattle.idl_compiler.specs.declared.fault.CompileFault.TheVariants.{Tokens, Grammar, Names, Types, NoMemory}
+use Rattle.idl_compiler.specs.declared.fault.CompileFault.TheVariants.{Tokens, Grammar, Names, Types, TooLong, NoMemory}
 use Rattle.idl_compiler.specs.Compiled.{IsCompiled}
 use Rattle.idl_compiler.specs.Refused.{HasFault, IsRefused}
 use Rattle.idl_compiler.proofs.OneShape.{same_model}
@@ -28,4 +28,5 @@ returns c = λ source fault settled refused told is. by source fault settled ref
         c.text_or_refused.ensures.grammar source is.definitions f refused is.text
     by source (Names f) settled refused told is = of_definitions source (Names f) settled refused told is
     by source (Types f) settled refused told is = of_definitions source (Types f) settled refused told is
+    by source TooLong settled refused told is = absurd refused
     by source NoMemory settled refused told is = absurd (told refl)

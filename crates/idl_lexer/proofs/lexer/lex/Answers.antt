@@ -55,7 +55,7 @@ returns-in_err-found-clause-refused c =
 
 first_fault : (source before rest : List ℕ) (at line : ℕ) (tokens : List Token) (fault : LexFault)
     → before ≡ take at source → rest ≡ drop at source → at < length source → Reads source tokens at line
-    → HasNoForm before rest → IsFaultAt before rest line fault → IsFault source fault
+    → HasNoForm before rest → IsFaultAt before rest (record { line = line; octet = at }) fault → IsFault source fault
 first_fault source before rest at line tokens fault front back within reads nothing told = record {
   place = at;
   within = within;

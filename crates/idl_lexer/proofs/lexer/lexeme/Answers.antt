@@ -2,6 +2,7 @@ use Rattle.std.proofs.Common.{◌≡◌, ◌≢◌, ◌∙◌, ℕ, true, false,
 use Rattle.std.specs.Char.{is_ascii_digit}
 use Rattle.std.proofs.lemmas.Result.{err_from_is_err_and}
 use Rattle.idl_lexer.specs.declared.fault.LexFault.{LexFault}
+use Rattle.idl_lexer.specs.declared.fault.Start.{Start}
 use Rattle.idl_lexer.specs.declared.lexeme.Lexeme.{Lexeme}
 use Rattle.idl_lexer.specs.Punctuation.{is_punctuation, opens_comment}
 use Rattle.idl_lexer.specs.Lexemes.{HasNoForm}
@@ -67,11 +68,11 @@ other s first second e f is = rw (e, f) at is
 slash : (a b : ℕ) → a ≡ 47 → opens_comment a b ≡ false → is_mark_of 1 a b ≡ true
 slash a b e h = let here : opens_comment 47 b ≡ false = rw e at h in ap (λ x. is_mark_of 1 x b) e ∙ ap not here
 
-told_word : (before s : List ℕ) (line : ℕ) (r : Result Lexeme LexFault) → IsOther (slice_index s 0) (slice_index s 1)
-    → IfErr r (λ _. (n : ℕ) → is_punctuation s n ≡ false) → IfErr r (IsWordFault s line)
-    → IfErr r (IsFaultAt before s line)
-told_word before s line (Ok l) is no_mark told = tt
-told_word before s line (Err f) is no_mark told =
+told_word : (before s : List ℕ) (start : Start) (r : Result Lexeme LexFault)
+    → IsOther (slice_index s 0) (slice_index s 1) → IfErr r (λ _. (n : ℕ) → is_punctuation s n ≡ false)
+    → IfErr r (IsWordFault s start) → IfErr r (IsFaultAt before s start)
+told_word before s start (Ok l) is no_mark told = tt
+told_word before s start (Err f) is no_mark told =
     let no_slash : slice_index s 0 ≢ 47 = λ e. let both : true ≡ false =
     sym (slash (slice_index s 0) (slice_index s 1) e
     (no_comment_of (slice_index s 0) (slice_index s 1) is.line is.block)) ∙ no_mark 1 in cc in
@@ -117,5 +118,5 @@ returns-in_default-3-clause-refused c =
 
 pub returns-in_default-3-clause-told : goal.returns-in_default-3-clause-told
 returns-in_default-3-clause-told c =
-    told_word c.args.before.now c.args.octets.now c.args.line c.mark_or_word.result (first_octets c)
+    told_word c.args.before.now c.args.octets.now c.args.start c.mark_or_word.result (first_octets c)
     c.mark_or_word.ensures.no_mark c.mark_or_word.ensures.told

@@ -2,6 +2,7 @@ use Rattle.std.proofs.Common.{◌≡◌, ◌≢◌, ◌∙◌, ℕ, ◌+◌, Lis
 use Rattle.std.proofs.lemmas.Grind.{get_or_after_one}
 use Rattle.std.proofs.lemmas.List.{drop-drop, get_or_past}
 use Rattle.idl_lexer.specs.declared.fault.LexFault.{LexFault}
+use Rattle.idl_lexer.specs.declared.fault.Start.{Start}
 use Rattle.idl_lexer.specs.declared.fault.LexFault.TheVariants.{OpenLiteral}
 use Rattle.idl_lexer.specs.Literals.{IsCharacter, IsCharLiteral}
 use Rattle.idl_lexer.specs.Faults.{character_fault, if_ascii, no_char, open_char, IsCharFault}
@@ -60,14 +61,14 @@ returns-in-Err-clause-refused c n t =
 behind_two : (s inner rest : List ℕ) (n : ℕ) → inner ≡ drop 1 s → rest ≡ drop n inner → rest ≡ drop (n + 1) s
 behind_two s inner rest n cut back = back ∙ ap (drop n) cut ∙ drop-drop n 1 s ∙ ap (λ k. drop k s) (omega arith)
 
-unclosed_char : (s inner rest : List ℕ) (n v line : ℕ) (fault : LexFault) → inner ≡ drop 1 s → rest ≡ drop n inner
-    → IsCharacter 39 inner n v → slice_index inner n ≢ 39 → fault ≡ if_ascii rest (OpenLiteral line) line
-    → IsCharFault s line fault
-unclosed_char s inner rest n v line fault cut back char other told =
+unclosed_char : (s inner rest : List ℕ) (n v : ℕ) (start : Start) (fault : LexFault) → inner ≡ drop 1 s
+    → rest ≡ drop n inner → IsCharacter 39 inner n v → slice_index inner n ≢ 39
+    → fault ≡ if_ascii rest (OpenLiteral start.line start.octet) start → IsCharFault s start fault
+unclosed_char s inner rest n v start fault cut back char other told =
     let place : slice_index inner n ≡ slice_index s (n + 1) = ap (λ t. slice_index t n) cut ∙ get_or_after_one s n 0
     ∙ ap (slice_index s) (omega arith) in
     open_char n v (rw cut at char) (λ e. other (place ∙ e))
-    (told ∙ ap (λ r. if_ascii r (OpenLiteral line) line) (behind_two s inner rest n cut back))
+    (told ∙ ap (λ r. if_ascii r (OpenLiteral start.line start.octet) start) (behind_two s inner rest n cut back))
 
 pub returns-in-Ok-2-clause-told : goal.returns-in-Ok-2-clause-told
 returns-in-Ok-2-clause-told c =
@@ -76,18 +77,18 @@ returns-in-Ok-2-clause-told c =
       | then-len-inner+else-inner-len-eq39 w ↦ w.if-inner-len-eq39.false
       | else-len-inner w ↦ λ e. omega (arith, e, get_or_past inner c.in-Ok.len 0 w.if-len-inner.false)
     ] in
-    unclosed_char c.args.octets.now inner _ c.in-Ok.len _ c.args.line _ c.split_at.ensures.back
+    unclosed_char c.args.octets.now inner _ c.in-Ok.len _ c.args.start _ c.split_at.ensures.back
     c.split_at-in-Ok-2.ensures.back c.in-Ok.ensures.form other c.unclosed.ensures
 
-no_char_there : (s inner : List ℕ) (line : ℕ) (fault inside : LexFault) → inner ≡ drop 1 s
-    → ((n v : ℕ) → IsCharacter 39 inner n v → ⊥) → inside ≡ character_fault 39 inner line
-    → fault ≡ if_ascii inner inside line → IsCharFault s line fault
-no_char_there s inner line fault inside cut never is told =
-    let there : fault ≡ if_ascii inner (character_fault 39 inner line) line =
-    told ∙ ap (λ f. if_ascii inner f line) is in
-    no_char (λ n v char. never n v (rw cut char)) (there ∙ ap (λ r. if_ascii r (character_fault 39 r line) line) cut)
+no_char_there : (s inner : List ℕ) (start : Start) (fault inside : LexFault) → inner ≡ drop 1 s
+    → ((n v : ℕ) → IsCharacter 39 inner n v → ⊥) → inside ≡ character_fault 39 inner start
+    → fault ≡ if_ascii inner inside start → IsCharFault s start fault
+no_char_there s inner start fault inside cut never is told =
+    let there : fault ≡ if_ascii inner (character_fault 39 inner start) start =
+    told ∙ ap (λ f. if_ascii inner f start) is in
+    no_char (λ n v char. never n v (rw cut char)) (there ∙ ap (λ r. if_ascii r (character_fault 39 r start) start) cut)
 
 pub returns-in-Err-clause-told : goal.returns-in-Err-clause-told
 returns-in-Err-clause-told c =
-    no_char_there c.args.octets.now c.split_at.result.1.now c.args.line _ c.in-Err.fault c.split_at.ensures.back
+    no_char_there c.args.octets.now c.split_at.result.1.now c.args.start _ c.in-Err.fault c.split_at.ensures.back
     (λ n v char. let made = c.in-Err.ensures.complete n v char in cc) c.in-Err.ensures.told c.unclosed-in-Err.ensures

@@ -3,6 +3,7 @@ use Rattle.std.proofs.lemmas.Grind.{common_steps}
 use Rattle.std.proofs.lemmas.List.{drop-drop, drop_all, get_or-drop, get_or_past}
 use Rattle.std.proofs.lemmas.Result.{err_from_is_err_and}
 use Rattle.idl_lexer.specs.declared.fault.LexFault.{LexFault}
+use Rattle.idl_lexer.specs.declared.fault.Start.{Start}
 use Rattle.idl_lexer.specs.declared.fault.LexFault.TheVariants.{BadEscape}
 use Rattle.idl_lexer.specs.Literals.{AreCharacters, ClosedCharacters, none, IsCharacter, plain, letter, octal, hexadecimal, IsTextLiteral}
 use Rattle.idl_lexer.specs.Faults.{character_fault, no_more, zero_char, IsTextFault}
@@ -105,35 +106,35 @@ whole s at (octets, read) low opens closes = record {
 next_place : (at : ℕ) → 1 ≤ at → at - 1 + 1 ≡ at
 next_place at low = omega arith
 
-no_more_there : (s rest : List ℕ) (at line : ℕ) (fault : LexFault)
+no_more_there : (s rest : List ℕ) (at : ℕ) (start : Start) (fault : LexFault)
     (read : (octets : List ℕ) × AreCharacters 34 (drop 1 s) (at - 1) octets) → 1 ≤ at → rest ≡ drop at s
-    → slice_index s at ≢ 34 → ((n v : ℕ) → IsCharacter 34 rest n v → ⊥) → fault ≡ character_fault 34 rest line
-    → IsTextFault s line fault
-no_more_there s rest at line fault (octets, read) low cut other never told =
+    → slice_index s at ≢ 34 → ((n v : ℕ) → IsCharacter 34 rest n v → ⊥) → fault ≡ character_fault 34 rest start
+    → IsTextFault s start fault
+no_more_there s rest at start fault (octets, read) low cut other never told =
     let place = next_place at low in
     let here : rest ≡ drop (at - 1 + 1) s = cut ∙ sym (ap (λ k. drop k s) place) in
     no_more (at - 1) octets read (λ e. other (ap (slice_index s) (sym place) ∙ e))
-    (λ n v char. never n v (rw here char)) (told ∙ ap (λ r. character_fault 34 r line) here)
+    (λ n v char. never n v (rw here char)) (told ∙ ap (λ r. character_fault 34 r start) here)
 
 pub returns-in_err-value-clause-told : goal.returns-in_err-value-clause-told
 returns-in_err-value-clause-told c =
     let p = err_from_is_err_and c.from_residual.result c.from_residual.ensures.1 in
     rw (p.1, p.2)
-    (no_more_there c.args.octets.now c.split_at.result.1.now c.loop-at.at c.args.line _ c.loop-at.invariant.read
+    (no_more_there c.args.octets.now c.split_at.result.1.now c.loop-at.at c.args.start _ c.loop-at.invariant.read
     c.loop-at.invariant.low c.split_at.ensures.back c.if-octets-at-ne34.true
     (λ n v char. let made = c.in_err-value.ensures.complete n v char in cc) c.in_err-value.ensures.told)
 
-zero_there : (s rest : List ℕ) (at n v line : ℕ)
+zero_there : (s rest : List ℕ) (at n v : ℕ) (start : Start)
     (read : (octets : List ℕ) × AreCharacters 34 (drop 1 s) (at - 1) octets) → 1 ≤ at → rest ≡ drop at s
-    → IsCharacter 34 rest n v → v ≡ 0 → IsTextFault s line (BadEscape line)
-zero_there s rest at n v line (octets, read) low cut char zero =
+    → IsCharacter 34 rest n v → v ≡ 0 → IsTextFault s start (BadEscape start.line start.octet)
+zero_there s rest at n v start (octets, read) low cut char zero =
     let here : rest ≡ drop (at - 1 + 1) s = cut ∙ sym (ap (λ k. drop k s) (next_place at low)) in
     let there : IsCharacter 34 (drop (at - 1 + 1) s) n v = rw here at char in
     zero_char (at - 1) n octets read (rw zero at there) refl
 
 pub returns-then-value-eq0-clause-told : goal.returns-then-value-eq0-clause-told
 returns-then-value-eq0-clause-told c =
-    zero_there c.args.octets.now c.split_at.result.1.now c.loop-at.at c.in_ok-value.len c.in_ok-value.value c.args.line
+    zero_there c.args.octets.now c.split_at.result.1.now c.loop-at.at c.in_ok-value.len c.in_ok-value.value c.args.start
     c.loop-at.invariant.read c.loop-at.invariant.low c.split_at.ensures.back c.in_ok-value.ensures.form
     c.if-value-eq0.true
 
@@ -147,5 +148,5 @@ pub returns-else-at-octets-clause-told : goal.returns-else-at-octets-clause-told
 returns-else-at-octets-clause-told c =
     let s = c.args.octets.now in
     let past : [] ≡ drop c.loop-at.at s = sym (drop_all c.loop-at.at s c.if-at-octets.false) in
-    no_more_there s [] c.loop-at.at c.args.line _ c.loop-at.invariant.read c.loop-at.invariant.low past
+    no_more_there s [] c.loop-at.at c.args.start _ c.loop-at.invariant.read c.loop-at.invariant.low past
     (λ e. omega (arith, e, get_or_past s c.loop-at.at 0 c.if-at-octets.false)) nothing_at_end refl

@@ -1,5 +1,5 @@
 use Rattle.std.proofs.Common.{◌≡◌, ◌∙◌, ◌+◌, ◌<◌, suc, true, false, Some, drop, length, sym, ap, arith}
-use Rattle.idl_lexer.specs.Words.{same_but_for_case}
+use Rattle.std.specs.Str.{str_eq_ignore_ascii_case}
 use Rattle.name_table.specs.Search.{word}
 use Rattle.scoped_names.specs.inner.StateKept.{sought}
 use Rattle.scoped_names.proofs.MembersKept.{case_told, sought_here, sought_on}
@@ -12,9 +12,9 @@ returns-then-eq_ignore_ascii_case c =
     let l = c.identifier-item.result in
     let k = c.loop-identifier.identifier-index in
     let lt : k < length ls = omega arith in
-    let same : same_but_for_case name (word l) ≡ true =
+    let same : str_eq_ignore_ascii_case name (word l) ≡ true =
     sym (case_told c.eq_ignore_ascii_case.result name c.name.result.now c.eq_ignore_ascii_case.ensures.test
-    ∙ ap (same_but_for_case name) c.name.ensures) ∙ c.if-eq_ignore_ascii_case.true in
+    ∙ ap (str_eq_ignore_ascii_case name) c.name.ensures) ∙ c.if-eq_ignore_ascii_case.true in
     ap Some c.at.ensures ∙ sym (sought_here ls k name l lt c.identifier-item.is same) ∙ sym c.loop-identifier.invariant
 
 pub loop-identifier-preserved : goal.loop-identifier-preserved
@@ -25,8 +25,8 @@ loop-identifier-preserved c =
     let k = c.loop-identifier.identifier-index in
     let lt : k < length ls = omega arith in
     let next : suc k ≡ k + 1 = omega arith in
-    let other : same_but_for_case name (word l) ≡ false =
+    let other : str_eq_ignore_ascii_case name (word l) ≡ false =
     sym (case_told c.eq_ignore_ascii_case.result name c.name.result.now c.eq_ignore_ascii_case.ensures.test
-    ∙ ap (same_but_for_case name) c.name.ensures) ∙ c.if-eq_ignore_ascii_case.false in
+    ∙ ap (str_eq_ignore_ascii_case name) c.name.ensures) ∙ c.if-eq_ignore_ascii_case.false in
     c.loop-identifier.invariant ∙ sought_on ls k name l lt c.identifier-item.is other
     ∙ ap (λ n. sought (drop n ls) name) next

@@ -1,0 +1,2 @@
+-- What the crate's own code names.
+pub mod Told
