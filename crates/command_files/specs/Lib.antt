@@ -1,5 +1,2 @@
--- Tables by the words that name them, and what they answer.
+-- Tables by the words that name them.
 pub mod Loaded
-pub mod Values
-pub mod Answers
-pub mod Fault

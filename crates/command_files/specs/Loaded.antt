@@ -10,8 +10,8 @@ use Rattle.command_tables.specs.Named.{Passing}
 use Rattle.command_tables.specs.Sample.{sample_table}
 use Rattle.command_tables.specs.declared.refusal.Refusal.TheVariants as refusals
 use Rattle.command_texts.specs.Lines.{Labels}
-use Rattle.command_files.specs.declared.fault.NamedFault.{NamedFault}
-use Rattle.command_files.specs.declared.fault.NamedFault.TheVariants.{Refused, NotCompiled}
+use Rattle.command_files.specs.declared.loaded.NamedFault.{NamedFault}
+use Rattle.command_files.specs.declared.loaded.NamedFault.TheVariants.{Refused, NotCompiled}
 
 -- a table file, and not IDL
 abbrev pub IsTableFile : List ℕ → Type 0

@@ -8,29 +8,18 @@ ghost use Rattle.command_tables.specs.Files.{RefusesFile};
 ghost use Rattle.command_tables.specs.Sample.{sample_table};
 ghost use Rattle.command_files.specs.Loaded.{IsHeldBy, IsLoaded, IsNotHeld, IsNotLoaded, IsTableFile};
 
-use crate::fault::NamedFault;
-use command_tables::{SAMPLE, WholeFiles, accepted, read_file, sample};
-use idl_compiler::compile_source;
-use position_checker::Accepted;
-use std::alloc::{AllocError, Global};
-use type_model::part_names::PartNames;
+use command_tables::{Refusal, SAMPLE, WholeFiles, accepted, read_file, sample};
+use command_texts::Loaded;
+use idl_compiler::{CompileFault, compile_source};
+use std::alloc::Global;
 
-/// A table, and the names of the parts of its types, where these are known.
+/// Why a word names no table.
 #[derive(Drop)]
-pub struct Loaded {
-    pub table: Accepted,
-    pub names: PartNames,
-}
-
-/// A table whose parts have no names.
-fn nameless(alloc: Global, table: Accepted) -> Loaded
-    ensures table { result.table ≡ table }
-    ensures names { result.names ≡ [] }
-{
-    Loaded {
-        table,
-        names: PartNames::new(alloc, Vec::new(alloc)),
-    }
+pub enum NamedFault<'a> {
+    /// A file or a table; want of memory.
+    Refused(Refusal<'a>),
+    /// The IDL file has no table.
+    NotCompiled(CompileFault),
 }
 
 /// Whether octets are a table file's, and not an IDL file's, of which none begins so.
@@ -47,8 +36,8 @@ fn of_table<'a>(alloc: Global, octets: &[u8]) -> Result<Loaded, NamedFault<'a>>
     ensures refused { IfErr result (IsNotHeld octets.now) }
 {
     match accepted(alloc, octets) {
-        Ok(table) => Ok(nameless(alloc, table)),
-        Err(refusal) => Err(NamedFault::from(refusal)),
+        Ok(table) => Ok(Loaded::nameless(alloc, table)),
+        Err(refusal) => Err(NamedFault::Refused(refusal)),
     }
 }
 
@@ -63,7 +52,7 @@ fn of_source<'a>(alloc: Global, octets: &[u8]) -> Result<Loaded, NamedFault<'a>>
             table: whole.settled.table,
             names: whole.names,
         }),
-        Err(refusal) => Err(NamedFault::from(refusal)),
+        Err(refusal) => Err(NamedFault::NotCompiled(refusal)),
     }
 }
 
@@ -80,14 +69,6 @@ fn held<'a>(alloc: Global, octets: &[u8]) -> Result<Loaded, NamedFault<'a>>
     }
 }
 
-/// The sample.
-fn sampled(alloc: Global) -> Result<Loaded, AllocError>
-    ensures table { IfOk result (λ loaded. loaded.table ≡ sample_table) }
-    ensures names { IfOk result (λ loaded. loaded.names ≡ []) }
-{
-    Ok(nameless(alloc, sample(alloc)?))
-}
-
 /// The table of a name: the sample, or that of a file, which was found right. A file that isn't a
 /// table file is read as IDL.
 ///
@@ -101,14 +82,13 @@ pub fn load<'a, R: WholeFiles + AllocGlobal>(
     ensures refused { IfErr result (IsNotLoaded (R.reads rt.now) name.now) }
 {
     if name == SAMPLE {
-        return match sampled(rt.alloc()) {
-            Ok(loaded) => Ok(loaded),
-            Err(error) => Err(NamedFault::from(error)),
+        return match sample(rt.alloc()) {
+            Ok(table) => Ok(Loaded::nameless(rt.alloc(), table)),
+            Err(_) => Err(NamedFault::Refused(Refusal::NoMemory)),
         };
     }
-    let octets = match read_file(rt, name) {
-        Ok(octets) => octets,
-        Err(refusal) => return Err(NamedFault::from(refusal)),
-    };
-    held(rt.alloc(), octets.as_slice())
+    match read_file(rt, name) {
+        Ok(octets) => held(rt.alloc(), octets.as_slice()),
+        Err(refusal) => Err(NamedFault::Refused(refusal)),
+    }
 }

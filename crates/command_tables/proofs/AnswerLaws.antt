@@ -4,8 +4,9 @@ use Rattle.std.specs.Bool.{OnFalse}
 use Rattle.hex.specs.Hex.{decode_of}
 use Rattle.table_file.specs.Table.{TableParts}
 use Rattle.command_tables.specs.declared.refusal.Refusal.{Refusal}
-use Rattle.command_tables.specs.declared.refusal.Refusal.TheVariants.{Unread, Unwritten, NoTable, NotRight, TooLong, NoType, BadHex, Refused, BadObject, NoInterface, NoReference, NoMemory}
-use Rattle.command_tables.specs.Answer.{Ask, IsLine, IsRefusalOf}
+use Rattle.command_tables.specs.declared.refusal.Refusal.TheVariants.{BadHex, Refused, NoMemory}
+use Rattle.command_words.specs.Requests.{Ask}
+use Rattle.command_tables.specs.Answer.{IsLine, IsRefusalOf}
 use Rattle.command_tables.specs.Lines.{Prints, HasNoAnswer}
 use Rattle.command_tables.specs.Refusal.{wants_memory, IsOfRun}
 
@@ -16,16 +17,7 @@ module _ (table : TableParts) (ask : Ask) (node : ℕ) (named : Contains table.m
       → IsRefusalOf table ask refusal
   bad_digits NoMemory h = tt
   bad_digits BadHex h = record { node = node; named = named; bad = h.1 }
-  bad_digits (NoTable fault) h = absurd cc
-  bad_digits (NotRight fault) h = absurd cc
-  bad_digits TooLong h = absurd cc
-  bad_digits (NoType name) h = absurd cc
-  bad_digits (Refused fault) h = absurd cc
-  bad_digits (Unread file) h = absurd cc
-  bad_digits (Unwritten file) h = absurd cc
-  bad_digits BadObject h = absurd cc
-  bad_digits (NoInterface name) h = absurd cc
-  bad_digits (NoReference fault) h = absurd cc
+  bad_digits refusal h = absurd cc
 
   module _ (input : List ℕ) (digits_are : decode_of ask.input ≡ Ok input) where
     pub line_of : {A : Type 0} (text_of : A → List ℕ) (r : Result A Refusal)
@@ -47,16 +39,7 @@ module _ (table : TableParts) (ask : Ask) (node : ℕ) (named : Contains table.m
     refused NoMemory h = tt
     refused (Refused fault) h =
         record { node = node; named = named; input = input; digits_are = digits_are; none = h.1 }
-    refused BadHex h = absurd h.0
-    refused (NoTable fault) h = absurd h.0
-    refused (NotRight fault) h = absurd h.0
-    refused TooLong h = absurd h.0
-    refused (NoType name) h = absurd h.0
-    refused (Unread file) h = absurd h.0
-    refused (Unwritten file) h = absurd h.0
-    refused BadObject h = absurd h.0
-    refused (NoInterface name) h = absurd h.0
-    refused (NoReference fault) h = absurd h.0
+    refused refusal h = absurd h.0
 
     pub refusal_of : {A : Type 0} (r : Result A Refusal)
         → IfErr r (λ refusal. IsOfRun refusal

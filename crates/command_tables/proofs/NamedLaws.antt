@@ -6,7 +6,7 @@ use Rattle.command_tables.specs.Named.{Passing, IsNoTable, IsNoUpgrade, IsTableO
 use Rattle.command_tables.specs.Files.{RefusesFile, RefusesTable}
 use Rattle.command_tables.specs.Refusal.{IsOfTable}
 use Rattle.command_tables.specs.declared.refusal.Refusal.{Refusal}
-use Rattle.command_tables.specs.declared.refusal.Refusal.TheVariants.{Unread, Unwritten, NoTable, NotRight, TooLong, NoType, BadHex, Refused, BadObject, NoInterface, NoReference, NoMemory}
+use Rattle.command_tables.specs.declared.refusal.Refusal.TheVariants.{NoTable, NotRight, NoMemory}
 
 module _ (Reads : Passing) (name : List ℕ) (table : TableParts) (is : IsTableOf Reads name table)
     {A : Type 0} (text_of : A → List ℕ) where
@@ -33,12 +33,4 @@ module _ (Reads : Passing) (name octets : List ℕ) (other : name ≢ codes "bui
   refused_file (Err (NotRight fault)) cause refused =
       record { other = other; octets = octets; read = read; refused = refused }
   refused_file (Err NoMemory) cause refused = tt
-  refused_file (Err (Unread file)) cause refused = absurd cause
-  refused_file (Err (Unwritten file)) cause refused = absurd cause
-  refused_file (Err TooLong) cause refused = absurd cause
-  refused_file (Err (NoType name)) cause refused = absurd cause
-  refused_file (Err BadHex) cause refused = absurd cause
-  refused_file (Err (Refused fault)) cause refused = absurd cause
-  refused_file (Err BadObject) cause refused = absurd cause
-  refused_file (Err (NoInterface name)) cause refused = absurd cause
-  refused_file (Err (NoReference fault)) cause refused = absurd cause
+  refused_file (Err refusal) cause refused = absurd cause

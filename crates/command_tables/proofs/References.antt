@@ -11,7 +11,8 @@ use Rattle.reference_texts.specs.Refusal.{wants_memory}
 use Rattle.reference_texts.specs.Texts.{IsTextOf}
 use Rattle.reference_texts.proofs.ProfileLaws.{profile_once}
 use Rattle.command_tables.specs.declared.refusal.Refusal.{Refusal}
-use Rattle.command_tables.specs.References.{ReferenceParts, IsObject, IsReferenceText, IsText, interface_named, reference_with}
+use Rattle.command_words.specs.Requests.{ReferenceParts}
+use Rattle.command_tables.specs.References.{IsObject, IsReferenceText, IsText, interface_named, reference_with}
 use Rattle.command_tables.specs.NoReference.{IsReferenceRefusal}
 use Rattle.command_tables.specs.Refusal.{refusal_of_reference}
 use Rattle.command_tables.proofs.Objects.{object_once}

@@ -1,30 +1,11 @@
 -- What is answered to one who asks a table for a value.
 use Rattle.std.specs.Prelude.{◌≡◌, ◌≢◌, ℕ, List, All, Contains, IsErr, Ok}
 use Rattle.hex.specs.Hex.{decode_of}
-use Rattle.type_graph.specs.declared.width.Order.{Order}
 use Rattle.table_file.specs.Table.{TableParts}
-use Rattle.command_tables.specs.declared.values.Way.{Way}
-use Rattle.command_tables.specs.declared.values.ValueRequest.{ValueRequest}
+use Rattle.command_words.specs.Requests.{Ask}
 use Rattle.command_tables.specs.declared.refusal.Refusal.{Refusal}
 use Rattle.command_tables.specs.declared.refusal.Refusal.TheVariants.{NoType, BadHex, Refused, NoMemory}
 use Rattle.command_tables.specs.Lines.{Answers, HasNoAnswer}
-
--- one value to marshal: its tape or octets in hexadecimal, or its text
-pub record Ask : Type 0 where
-  pub way : Way
-  pub name : List ℕ
-  pub order : Order
-  pub pos : ℕ
-  pub input : List ℕ
-
-abbrev pub ask_of : ValueRequest → List ℕ → Ask
-ask_of request input = record {
-  way = request.way;
-  name = request.name.now;
-  order = request.order;
-  pos = request.pos;
-  input = input;
-}
 
 -- the line that answers
 pub record IsLine (table : TableParts) (ask : Ask) (line : List ℕ) : Type 0 where

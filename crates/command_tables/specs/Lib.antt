@@ -6,3 +6,4 @@ pub mod Files
 pub mod References
 pub mod NoReference
 pub mod Named
+pub mod Texts

@@ -6,8 +6,8 @@ use Rattle.type_graph.specs.declared.node.Node.{Node}
 use Rattle.type_graph.specs.declared.width.Order.{Order}
 use Rattle.type_graph.specs.Words.{reading, writing}
 use Rattle.type_graph.specs.Encoding.{Means}
-use Rattle.command_tables.specs.declared.values.Way.{Way}
-use Rattle.command_tables.specs.declared.values.Way.TheVariants.{Encode, Decode}
+use Rattle.command_words.specs.declared.requests.value.Way.{Way}
+use Rattle.command_words.specs.declared.requests.value.Way.TheVariants.{Encode, Decode}
 
 -- the digits of the CDR octets of the value that the tape is
 pub record PrintsOctets (graph : List Node) (order : Order) (node pos : ℕ) (tape line : List ℕ) : Type 0 where

@@ -4,7 +4,8 @@ use Rattle.type_model.specs.ModelRules.{Parts}
 use Rattle.reference_texts.specs.declared.fault.ReferenceFault.TheVariants as faults
 use Rattle.command_tables.specs.declared.refusal.Refusal.{Refusal}
 use Rattle.command_tables.specs.declared.refusal.Refusal.TheVariants.{BadObject, NoInterface, NoReference, NoMemory}
-use Rattle.command_tables.specs.References.{ReferenceParts, IsObject, IsText, interface_named}
+use Rattle.command_words.specs.Requests.{ReferenceParts}
+use Rattle.command_tables.specs.References.{IsObject, IsText, interface_named}
 
 -- the interface of the object isn't there
 pub record HasNoInterface (model : Parts) (ask : ReferenceParts) (name : List ℕ) : Type 0 where

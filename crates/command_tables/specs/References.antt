@@ -6,16 +6,7 @@ use Rattle.type_model.specs.ModelRules.{Parts}
 use Rattle.reference_texts.specs.References.{Reference}
 use Rattle.reference_texts.specs.Profiles.{IsProfile}
 use Rattle.reference_texts.specs.Texts.{IsTextOf}
-use Rattle.command_tables.specs.declared.reference.ReferenceRequest.{ReferenceRequest}
-
--- what is asked for
-pub record ReferenceParts : Type 0 where
-  pub host : List ℕ
-  pub port : ℕ
-  pub object : List ℕ
-
-abbrev pub reference_parts_of : ReferenceRequest → ReferenceParts
-reference_parts_of wanted = record { host = wanted.host.now; port = wanted.port; object = wanted.object.now }
+use Rattle.command_words.specs.Requests.{ReferenceParts}
 
 -- A word for an object: the key is what stands before the first equals sign, and isn't empty.
 pub record IsObject (word key name : List ℕ) : Type 0 where

@@ -10,8 +10,10 @@ use Rattle.routine_checker.specs.declared.fault.CheckFault.{CheckFault}
 use Rattle.routine_checker.specs.declared.fault.CheckFault.TheVariants as checks
 use Rattle.reference_texts.specs.declared.fault.ReferenceFault.{ReferenceFault}
 use Rattle.reference_texts.specs.declared.fault.ReferenceFault.TheVariants as references
+use Rattle.value_text.specs.declared.fault.ReadFault.{ReadFault}
+use Rattle.value_text.specs.declared.fault.ReadFault.TheVariants as texts
 use Rattle.command_tables.specs.declared.refusal.Refusal.{Refusal}
-use Rattle.command_tables.specs.declared.refusal.Refusal.TheVariants.{NoTable, NotRight, Refused, NoReference, NoMemory, TooLong}
+use Rattle.command_tables.specs.declared.refusal.Refusal.TheVariants.{NoTable, NotRight, Refused, NoReference, NoMemory, TooLong, Unsaid}
 
 abbrev pub refusal_of_run : RunFault → Refusal
 refusal_of_run runs.NoMemory = NoMemory
@@ -33,6 +35,10 @@ refusal_of_check fault = NotRight fault
 abbrev pub refusal_of_reference : ReferenceFault → Refusal
 refusal_of_reference references.NoMemory = NoMemory
 refusal_of_reference fault = NoReference fault
+
+abbrev pub refusal_of_text : ReadFault → Refusal
+refusal_of_text texts.NoMemory = NoMemory
+refusal_of_text (texts.Refused fault) = Unsaid fault
 
 -- whether memory was wanted
 abbrev pub wants_memory : Refusal → Bool

@@ -32,3 +32,20 @@ impl fmt::Display for Escaped<'_> {
         Ok(())
     }
 }
+
+/// A word with an escape for each control character alone.
+#[derive(Clone, Copy)]
+pub struct Plain<'a>(pub &'a str);
+
+impl<'a> fmt::Display for Plain<'a> {
+    fn fmt<W: fmt::Write>(&self, f: &mut fmt::Formatter<W>) -> fmt::Result {
+        for c in self.0.chars() {
+            if c.is_control() {
+                write!(f, "\\x{:02x}", c as u32)?;
+            } else {
+                write!(f, "{c}")?;
+            }
+        }
+        Ok(())
+    }
+}

@@ -5,11 +5,13 @@ ghost use Rattle.std.specs.Bool.{OnFalse};
 ghost use Rattle.std.specs.String.{string_bytes};
 ghost use Rattle.reference_texts.specs.References.{reference_of};
 ghost use Rattle.reference_texts.specs.Refusal.{wants_memory};
-ghost use Rattle.command_tables.specs.References.{IsReferenceLine, IsReferenceText, reference_parts_of, reference_with};
+ghost use Rattle.command_words.specs.Requests.{reference_parts_of};
+ghost use Rattle.command_tables.specs.References.{IsReferenceLine, IsReferenceText, reference_with};
 ghost use Rattle.command_tables.specs.NoReference.{IsReferenceRefusal};
 
 use crate::object::{interface_named, object_in};
 use crate::refusal::Refusal;
+use command_words::requests::ReferenceRequest;
 use giop_types::GiopTypes;
 use position_checker::Accepted;
 use reference_texts::{Ior, ReferenceFault, ior_to_text, profile};
@@ -17,15 +19,6 @@ use std::alloc::{AllocError, Global};
 
 /// The tag of the profiles of IIOP.
 const IIOP: u32 = 0;
-
-/// A reference to print.
-#[derive(Clone, Copy)]
-pub struct ReferenceRequest<'a> {
-    pub host: &'a str,
-    pub port: u16,
-    /// The key of the object, an equals sign, and the name of its interface.
-    pub object: &'a str,
-}
 
 /// The reference with one profile.
 fn reference(alloc: Global, id: &[u8], octets: Vec<u8>) -> Result<Ior, AllocError>

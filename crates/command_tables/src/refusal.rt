@@ -2,7 +2,7 @@
 
 ghost use Rattle.std.specs.Prelude.{◌≡◌};
 ghost use Rattle.command_tables.specs.declared.refusal.Refusal.TheVariants.{NoMemory};
-ghost use Rattle.command_tables.specs.Refusal.{refusal_of_check, refusal_of_file, refusal_of_reference, refusal_of_run, refusal_of_table};
+ghost use Rattle.command_tables.specs.Refusal.{refusal_of_check, refusal_of_file, refusal_of_reference, refusal_of_run, refusal_of_table, refusal_of_text};
 
 use crate::escaped::Escaped;
 use marshal_program::TableFault;
@@ -11,6 +11,7 @@ use program_runner::RunFault;
 use reference_texts::ReferenceFault;
 use std::alloc::AllocError;
 use thiserror::Error;
+use value_text::{ReadFault, Refusal as TextFault};
 
 /// A refusal has as its text the line that the program puts behind its name.
 #[derive(Debug, Drop, Error)]
@@ -34,6 +35,9 @@ pub enum Refusal<'a> {
     /// An odd number of digits, or a character that is none.
     #[error("bad hex")]
     BadHex,
+    /// A text says no value of its type.
+    #[error("{} line {} column {}", .0.wanted, .0.place.line, .0.place.column)]
+    Unsaid(TextFault),
     /// The tape or the octets are no value's.
     #[error(transparent)]
     Refused(RunFault),
@@ -110,6 +114,17 @@ impl<'a> From<ReferenceFault> for Refusal<'a> {
         match fault {
             ReferenceFault::NoMemory => Refusal::NoMemory,
             fault => Refusal::NoReference(fault),
+        }
+    }
+}
+
+impl<'a> From<ReadFault> for Refusal<'a> {
+    ghost from_gives = { λ fault refusal. refusal ≡ refusal_of_text fault };
+
+    fn from(fault: ReadFault) -> Refusal<'a> {
+        match fault {
+            ReadFault::NoMemory => Refusal::NoMemory,
+            ReadFault::Refused(fault) => Refusal::Unsaid(fault),
         }
     }
 }

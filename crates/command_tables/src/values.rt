@@ -6,33 +6,16 @@ ghost use Rattle.std.specs.String.{string_bytes};
 ghost use Rattle.std.specs.Fmt.{decimal};
 ghost use Rattle.hex.specs.Hex.{decode_of, encode_lower};
 ghost use Rattle.type_model.specs.Names.{IsNamed};
-ghost use Rattle.command_tables.specs.Answer.{IsLine, IsRefusalOf, ask_of};
+ghost use Rattle.command_words.specs.Requests.{ask_of};
+ghost use Rattle.command_tables.specs.Answer.{IsLine, IsRefusalOf};
 ghost use Rattle.command_tables.specs.Lines.{PrintsOctets, PrintsTape, Prints, HasNoOctets, HasNoTape, HasNoAnswer};
 ghost use Rattle.command_tables.specs.Refusal.{wants_memory, IsOfRun};
 
 use crate::refusal::Refusal;
+use command_words::requests::{ValueRequest, Way};
 use hex::FromHexError;
 use position_checker::Accepted;
 use std::alloc::{AllocError, Global};
-use type_graph::Order;
-
-/// From a tape to octets, or from octets to a tape.
-#[derive(Clone, Copy, Debug, PartialEq, Eq)]
-pub enum Way {
-    Encode,
-    Decode,
-}
-
-/// One value to marshal.
-#[derive(Clone, Copy)]
-pub struct ValueRequest<'a> {
-    pub way: Way,
-    /// The name of a type of the table.
-    pub name: &'a str,
-    pub order: Order,
-    /// The position of the first octet.
-    pub pos: u64,
-}
 
 /// The octets that hexadecimal digits are, in letters of either case.
 ///

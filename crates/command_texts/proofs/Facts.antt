@@ -11,20 +11,17 @@ use Rattle.program_runner.specs.Refusal.{wants_memory as run_wants_memory}
 use Rattle.program_steps.specs.declared.fault.RunFault.{RunFault}
 use Rattle.program_steps.specs.declared.fault.RunFault.TheVariants as runs
 use Rattle.table_file.specs.Table.{TableParts}
-use Rattle.command_tables.specs.Answer.{Ask}
-use Rattle.command_tables.specs.Refusal.{wants_memory, refusal_of_run}
+use Rattle.command_words.specs.Requests.{Ask}
+use Rattle.command_tables.specs.Refusal.{wants_memory, refusal_of_run, refusal_of_text}
 use Rattle.command_tables.specs.declared.refusal.Refusal.{Refusal}
-use Rattle.command_tables.specs.declared.refusal.Refusal.TheVariants.{Unread, Unwritten, NoTable, NotRight, TooLong, NoType, BadHex, Refused, BadObject, NoInterface, NoReference, NoMemory}
-use Rattle.command_tables.specs.declared.values.Way.{Way}
-use Rattle.command_tables.specs.declared.values.Way.TheVariants.{Encode, Decode}
+use Rattle.command_tables.specs.declared.refusal.Refusal.TheVariants.{NoType, BadHex, Refused, NoMemory}
+use Rattle.command_words.specs.declared.requests.value.Way.{Way}
+use Rattle.command_words.specs.declared.requests.value.Way.TheVariants.{Encode, Decode}
 use Rattle.value_text.specs.Refusal.{wants_memory as text_wants_memory}
 use Rattle.value_text.specs.declared.fault.ReadFault.{ReadFault}
 use Rattle.value_text.specs.declared.fault.ReadFault.TheVariants as texts
 use Rattle.value_text.specs.Tapes.{IsTextOfTape}
 use Rattle.command_texts.specs.Lines.{HasNone, IsRefusalAt, IsTextLine, IsTextRefusal, Labels, Prints, PrintsTextOf, SaysNone}
-use Rattle.command_texts.specs.Refusal.{refusal_of_read}
-use Rattle.command_texts.specs.declared.refusal.TextRefusal.{TextRefusal}
-use Rattle.command_texts.specs.declared.refusal.TextRefusal.TheVariants.{Unsaid, Other}
 use Rattle.command_texts.specs.inner.Tapes.{IsOfRun, IsTextOf}
 
 -- the line has the text of the value that the octets encode
@@ -65,58 +62,38 @@ told labels graph node taken tape text line of is = record {
 }
 
 pub of_run : (fault : RunFault) (fact : Type 0) → OnFalse (run_wants_memory fault) fact
-    → IsOfRun (Other (refusal_of_run fault)) fact
+    → IsOfRun (refusal_of_run fault) fact
 of_run runs.NoMemory fact h = tt
 of_run fault fact h = h
 
 module _ (labels : Labels) (graph : List Node) (node : ℕ) (ask : Ask) where
   -- the text says no value
   pub unsaid : (fault : ReadFault) → OnFalse (text_wants_memory fault) (SaysNone labels graph node ask)
-      → IsRefusalAt Encode labels graph node ask (refusal_of_read fault)
+      → IsRefusalAt Encode labels graph node ask (refusal_of_text fault)
   unsaid texts.NoMemory h = tt
   unsaid (texts.Refused fault) h = h
 
   -- the run was refused
-  pub refused_run : (way : Way) (fact : Type 0) → (fact → HasNone way labels graph node ask) → (refusal : TextRefusal)
+  pub refused_run : (way : Way) (fact : Type 0) → (fact → HasNone way labels graph node ask) → (refusal : Refusal)
       → IsOfRun refusal fact
       → IsRefusalAt way labels graph node ask refusal
-  refused_run Encode fact none (Other NoMemory) h = tt
-  refused_run Decode fact none (Other NoMemory) h = tt
-  refused_run Encode fact none (Other (Refused fault)) h = none h
-  refused_run Decode fact none (Other (Refused fault)) h = none h
-  refused_run way fact none (Unsaid fault) h = absurd h
-  refused_run way fact none (Other (Unread file)) h = absurd h
-  refused_run way fact none (Other (Unwritten file)) h = absurd h
-  refused_run way fact none (Other (NoTable fault)) h = absurd h
-  refused_run way fact none (Other (NotRight fault)) h = absurd h
-  refused_run way fact none (Other TooLong) h = absurd h
-  refused_run way fact none (Other (NoType name)) h = absurd h
-  refused_run way fact none (Other BadHex) h = absurd h
-  refused_run way fact none (Other BadObject) h = absurd h
-  refused_run way fact none (Other (NoInterface name)) h = absurd h
-  refused_run way fact none (Other (NoReference fault)) h = absurd h
+  refused_run Encode fact none NoMemory h = tt
+  refused_run Decode fact none NoMemory h = tt
+  refused_run Encode fact none (Refused fault) h = none h
+  refused_run Decode fact none (Refused fault) h = none h
+  refused_run way fact none refusal h = absurd h
 
   -- the digits are none
   pub bad_digits : (refusal : Refusal)
       → OnFalse (wants_memory refusal) ((refusal ≡ BadHex) × IsErr (decode_of ask.input))
-      → IsRefusalAt Decode labels graph node ask (Other refusal)
+      → IsRefusalAt Decode labels graph node ask refusal
   bad_digits NoMemory h = tt
   bad_digits BadHex h = h.1
-  bad_digits (NoTable fault) h = absurd cc
-  bad_digits (NotRight fault) h = absurd cc
-  bad_digits TooLong h = absurd cc
-  bad_digits (NoType name) h = absurd cc
-  bad_digits (Refused fault) h = absurd cc
-  bad_digits (Unread file) h = absurd cc
-  bad_digits (Unwritten file) h = absurd cc
-  bad_digits BadObject h = absurd cc
-  bad_digits (NoInterface name) h = absurd cc
-  bad_digits (NoReference fault) h = absurd cc
+  bad_digits refusal h = absurd cc
 
 module _ {A : Type 0} (text_of : A → List ℕ) where
   pub run_refused : (way : Way) (labels : Labels) (graph : List Node) (node : ℕ) (ask : Ask) (fact : Type 0)
-      → (fact → HasNone way labels graph node ask) → (r : Result A TextRefusal)
-      → IfErr r (λ refusal. IsOfRun refusal fact)
+      → (fact → HasNone way labels graph node ask) → (r : Result A Refusal) → IfErr r (λ refusal. IsOfRun refusal fact)
       → IfErr r (IsRefusalAt way labels graph node ask)
   run_refused way labels graph node ask fact none (Ok line) h = tt
   run_refused way labels graph node ask fact none (Err refusal) h =
@@ -124,21 +101,21 @@ module _ {A : Type 0} (text_of : A → List ℕ) where
 
   module _ (table : TableParts) (labels : Labels) (ask : Ask) (node : ℕ)
       (named : Contains table.model.names (ask.name, node)) where
-    pub line_of : (r : Result A TextRefusal)
+    pub line_of : (r : Result A Refusal)
         → IfOk r (λ line. Prints ask.way labels table.model.graph node ask (text_of line))
         → IfOk r (λ line. IsTextLine table labels ask (text_of line))
     line_of (Ok line) prints = record { node = node; named = named; prints = prints }
     line_of (Err refusal) prints = tt
 
-    not_named : (refusal : TextRefusal) → IsRefusalAt ask.way labels table.model.graph node ask refusal
+    not_named : (refusal : Refusal) → IsRefusalAt ask.way labels table.model.graph node ask refusal
         → IsTextRefusal table labels ask refusal
-    not_named (Other (NoType name)) h = absurd (by_way ask.way h) where
-      by_way : (way : Way) → IsRefusalAt way labels table.model.graph node ask (Other (NoType name)) → ⊥
+    not_named (NoType name) h = absurd (by_way ask.way h) where
+      by_way : (way : Way) → IsRefusalAt way labels table.model.graph node ask (NoType name) → ⊥
       by_way Encode h = h
       by_way Decode h = h
     not_named refusal h = record { node = node; named = named; refused = h }
 
-    pub refusal_of : (r : Result A TextRefusal) → IfErr r (IsRefusalAt ask.way labels table.model.graph node ask)
+    pub refusal_of : (r : Result A Refusal) → IfErr r (IsRefusalAt ask.way labels table.model.graph node ask)
         → IfErr r (IsTextRefusal table labels ask)
     refusal_of (Ok line) h = tt
     refusal_of (Err refusal) h = not_named refusal h

@@ -1,6 +1,5 @@
 -- Values as text, by the types of a table.
 pub mod Lines
-pub mod Refusal
 pub mod inner
 pub mod Bodies
 pub mod Outcomes

@@ -11,15 +11,17 @@ use Rattle.type_graph.specs.Words.{reading}
 use Rattle.type_graph.specs.Value.{Tree, Fits, node_at, tape_of}
 use Rattle.type_graph.specs.Encoding.{Means}
 use Rattle.table_file.specs.Table.{TableParts}
-use Rattle.command_tables.specs.declared.values.Way.{Way}
-use Rattle.command_tables.specs.declared.values.Way.TheVariants.{Encode, Decode}
-use Rattle.command_tables.specs.declared.refusal.Refusal.TheVariants as commands
-use Rattle.command_tables.specs.Answer.{Ask}
+use Rattle.command_words.specs.declared.requests.value.Way.{Way}
+use Rattle.command_words.specs.declared.requests.value.Way.TheVariants.{Encode, Decode}
+use Rattle.command_words.specs.declared.requests.value.Form.{Form}
+use Rattle.command_words.specs.declared.requests.value.Form.TheVariants.{Hex, Text}
+use Rattle.command_tables.specs.declared.refusal.Refusal.{Refusal}
+use Rattle.command_tables.specs.declared.refusal.Refusal.TheVariants.{BadHex, NoMemory, NoType, Refused, Unsaid}
+use Rattle.command_words.specs.Requests.{Ask}
+use Rattle.command_tables.specs.Answer.{IsLine, IsRefusalOf}
 use Rattle.command_tables.specs.Lines.{PrintsOctets, HasNoOctets, HasNoTape}
 use Rattle.value_text.specs.Says.{StandsFor}
 use Rattle.value_text.specs.Texts.{text_at}
-use Rattle.command_texts.specs.declared.refusal.TextRefusal.{TextRefusal}
-use Rattle.command_texts.specs.declared.refusal.TextRefusal.TheVariants.{Unsaid, Other}
 
 -- the names of the parts of nodes, by their numbers
 abbrev pub Labels : Type 0
@@ -59,6 +61,11 @@ pub record IsTextLine (table : TableParts) (labels : Labels) (ask : Ask) (line :
   pub named : Contains table.model.names (ask.name, node)
   pub prints : Prints ask.way labels table.model.graph node ask line
 
+-- the line that answers, in the form
+abbrev pub IsLineOf : Form → TableParts → Labels → Ask → List ℕ → Type 0
+IsLineOf Hex table labels ask line = IsLine table ask line
+IsLineOf Text table labels ask line = IsTextLine table labels ask line
+
 -- ---- refusals
 
 -- the text says no value of the type
@@ -82,20 +89,25 @@ HasNone Encode labels graph node ask = HasNoOctetsSaid labels graph node ask
 HasNone Decode labels graph node ask = HasNoText graph node ask
 
 -- why a value of a node isn't answered
-abbrev pub IsRefusalAt : Way → Labels → List Node → ℕ → Ask → TextRefusal → Type 0
+abbrev pub IsRefusalAt : Way → Labels → List Node → ℕ → Ask → Refusal → Type 0
 IsRefusalAt Encode labels graph node ask (Unsaid fault) = SaysNone labels graph node ask
-IsRefusalAt Decode labels graph node ask (Other commands.BadHex) = IsErr (decode_of ask.input)
-IsRefusalAt way labels graph node ask (Other (commands.Refused fault)) = HasNone way labels graph node ask
-IsRefusalAt way labels graph node ask (Other commands.NoMemory) = Unit {0}
+IsRefusalAt Decode labels graph node ask BadHex = IsErr (decode_of ask.input)
+IsRefusalAt way labels graph node ask (Refused fault) = HasNone way labels graph node ask
+IsRefusalAt way labels graph node ask NoMemory = Unit {0}
 IsRefusalAt way labels graph node ask refusal = ⊥
 
-pub record IsRefusedAt (table : TableParts) (labels : Labels) (ask : Ask) (refusal : TextRefusal) : Type 0 where
+pub record IsRefusedAt (table : TableParts) (labels : Labels) (ask : Ask) (refusal : Refusal) : Type 0 where
   pub node : ℕ
   pub named : Contains table.model.names (ask.name, node)
   pub refused : IsRefusalAt ask.way labels table.model.graph node ask refusal
 
 -- the refusal that answers
-abbrev pub IsTextRefusal : TableParts → Labels → Ask → TextRefusal → Type 0
-IsTextRefusal table labels ask (Other (commands.NoType name)) =
+abbrev pub IsTextRefusal : TableParts → Labels → Ask → Refusal → Type 0
+IsTextRefusal table labels ask (NoType name) =
     (name.now ≡ ask.name) × All (λ pair. pair.0 ≢ ask.name) table.model.names
 IsTextRefusal table labels ask refusal = IsRefusedAt table labels ask refusal
+
+-- the same, in the form
+abbrev pub IsRefusedIn : Form → TableParts → Labels → Ask → Refusal → Type 0
+IsRefusedIn Hex table labels ask refusal = IsRefusalOf table ask refusal
+IsRefusedIn Text table labels ask refusal = IsTextRefusal table labels ask refusal

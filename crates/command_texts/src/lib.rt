@@ -3,10 +3,10 @@
 #![tactic(auto)]
 
 pub mod call_texts;
+mod line;
+mod loaded;
 mod marshal;
 mod outline;
-mod refusal;
 
-pub use marshal::marshal_text;
-pub use outline::outlines;
-pub use refusal::TextRefusal;
+pub use line::{shown, value_line};
+pub use loaded::Loaded;

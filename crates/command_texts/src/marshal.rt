@@ -6,15 +6,15 @@ ghost use Rattle.std.specs.Fmt.{decimal};
 ghost use Rattle.type_graph.specs.Value.{Fits, node_at, tape_of};
 ghost use Rattle.idl_value.specs.View.{tree_of};
 ghost use Rattle.type_model.specs.Names.{IsNamed};
-ghost use Rattle.command_tables.specs.Answer.{ask_of};
+ghost use Rattle.command_words.specs.Requests.{ask_of};
 ghost use Rattle.command_tables.specs.Lines.{PrintsOctets, HasNoOctets, HasNoTape};
 ghost use Rattle.command_texts.specs.Lines.{IsRefusalAt, IsTextLine, IsTextRefusal, Prints, PrintsSaid, PrintsTextOf};
 ghost use Rattle.command_texts.specs.inner.Tapes.{IsOfRun, IsTextOf};
 ghost use Rattle.value_text.specs.Tapes.{IsTape};
-ghost use Rattle.command_tables.specs.declared.values.Way.TheVariants.{Encode, Decode};
+ghost use Rattle.command_words.specs.declared.requests.value.Way.TheVariants.{Encode, Decode};
 
-use crate::refusal::TextRefusal;
-use command_tables::{Refusal, ValueRequest, Way, octets_line, octets_of};
+use command_tables::{Refusal, octets_line, octets_of};
+use command_words::requests::{ValueRequest, Way};
 use idl_value::Value;
 use position_checker::Accepted;
 use std::alloc::{AllocError, Global};
@@ -29,7 +29,7 @@ fn encode_value<'a>(
     node: u32,
     request: &ValueRequest<'a>,
     value: &Value,
-) -> Result<String, TextRefusal<'a>>
+) -> Result<String, Refusal<'a>>
     requires named { IsNamed table.now.model.names node }
     requires fits { Fits table.now.model.graph (node_at table.now.model.graph node) (tree_of value.now) 64 }
     ensures ok { IfOk result (λ line. PrintsOctets table.now.model.graph request.now.order node request.now.pos
@@ -50,7 +50,7 @@ fn encode<'a>(
     node: u32,
     request: &ValueRequest<'a>,
     text: &str,
-) -> Result<String, TextRefusal<'a>>
+) -> Result<String, Refusal<'a>>
     requires named { IsNamed table.now.model.names node }
     ensures ok { IfOk result (λ line. PrintsSaid names.now table.now.model.graph node (ask_of request.now text.now)
         (string_bytes line)) }
@@ -94,7 +94,7 @@ fn decode<'a>(
     node: u32,
     request: &ValueRequest<'a>,
     octets: &[u8],
-) -> Result<String, TextRefusal<'a>>
+) -> Result<String, Refusal<'a>>
     requires named { IsNamed table.now.model.names node }
     ensures ok { IfOk result (λ line. PrintsTextOf names.now table.now.model.graph node request.now.order
         request.now.pos octets.now (string_bytes line)) }
@@ -114,7 +114,7 @@ fn answer<'a>(
     node: u32,
     request: &ValueRequest<'a>,
     input: &str,
-) -> Result<String, TextRefusal<'a>>
+) -> Result<String, Refusal<'a>>
     requires named { IsNamed table.now.model.names node }
     ensures ok { IfOk result (λ line. Prints request.now.way names.now table.now.model.graph node
         (ask_of request.now input.now) (string_bytes line)) }
@@ -137,19 +137,19 @@ fn answer<'a>(
 /// # Errors
 /// The first in the order of the words: no such type, a text that says no value of it or digits
 /// that are none, a refusal of the run. Want of memory can come before each but the first.
-pub fn marshal_text<'a>(
+pub(crate) fn marshal_text<'a>(
     alloc: Global,
     table: &Accepted,
     names: &PartNames,
     request: &ValueRequest<'a>,
     input: &str,
-) -> Result<String, TextRefusal<'a>>
+) -> Result<String, Refusal<'a>>
     ensures line { IfOk result (λ line.
         IsTextLine table.now names.now (ask_of request.now input.now) (string_bytes line)) }
     ensures refused { IfErr result (IsTextRefusal table.now names.now (ask_of request.now input.now)) }
 {
     let Some(node) = table.node_of(request.name) else {
-        return Err(TextRefusal::Other(Refusal::NoType { name: request.name }));
+        return Err(Refusal::NoType { name: request.name });
     };
     answer(alloc, table, names, node, request, input)
 }

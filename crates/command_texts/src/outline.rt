@@ -381,7 +381,11 @@ fn lines(alloc: Global, types: &Types<'_>) -> Result<String, AllocError> {
 
 /// For each name of a table what the text of a value of its type looks like, as a line; then the
 /// same of types without a name, by the numbers of their nodes.
-pub fn outlines(alloc: Global, table: &Accepted, parts: &PartNames) -> Result<String, AllocError> {
+pub(crate) fn outlines(
+    alloc: Global,
+    table: &Accepted,
+    parts: &PartNames,
+) -> Result<String, AllocError> {
     let model = table.table().model();
     let names = names_of(alloc, model)?;
     let graph = model.graph();

@@ -1,12 +1,12 @@
 -- Which command asks for what.
-use Rattle.std.proofs.Common.{◌≡◌, ◌∙◌, refl, sym, List, Option, Some, IsSomeAnd, ap, codes, length, arith}
+use Rattle.std.proofs.Common.{◌≡◌, ◌∙◌, refl, sym, List, Option, Some, IsSomeAnd, ap, codes, length, slice_index, arith}
 use Rattle.clap.specs.Words.{Row, Text}
-use Rattle.command_tables.specs.declared.values.Way.{Way}
-use Rattle.command_tables.specs.declared.values.Way.TheVariants.{Encode, Decode}
+use Rattle.command_words.specs.declared.requests.value.Way.{Way}
+use Rattle.command_words.specs.declared.requests.value.Way.TheVariants.{Encode, Decode}
 use Rattle.command_words.specs.declared.task.Task.{Task}
 use Rattle.command_words.specs.Way.{name_of}
-use Rattle.command_words.specs.Ask.{Ask, Value, Reference, Explanation, Description, ValueAsk, ReferenceAsk, ask_of, command_of}
-use Rattle.command_words.specs.Words.{Tells, TellsDescription, TellsReference, TellsRefusal, TellsValue}
+use Rattle.command_words.specs.Ask.{Answer, Ask, Asked, Call, CallAsk, Dump, Value, Reference, Explanation, Description, ValueAsk, ReferenceAsk, ask_of, asking_command, command_of}
+use Rattle.command_words.specs.Words.{Tells, TellsAsked, TellsCall, TellsDescription, TellsReference, TellsRefusal, TellsValue}
 use Rattle.command_words.proofs.FoundRequests.{different, same_way}
 
 way_length : (way : Way) → length (name_of way) ≡ 6
@@ -55,3 +55,14 @@ by_description (Value value) rows result is tells then =
 by_description (Reference reference) rows result is tells then = absurd (different 9 3 (ap length is) (omega arith))
 by_description (Explanation word) rows result is tells then = absurd (different 9 7 (ap length is) (omega arith))
 by_description (Description reference) rows result is tells then = then reference tells
+
+pub by_call : {A : Type 0} (rows : List Row) (asked : Asked) → codes "call" ≡ asking_command asked
+    → TellsAsked rows asked
+    → ((ask : CallAsk) → asked ≡ Call ask → TellsCall rows ask → A) → A
+by_call rows (Call ask) is tells then = then ask refl tells
+by_call rows (Dump ask) is tells then = absurd (different 99 100 (ap (λ (t : Text). slice_index t 0) is) (omega arith))
+by_call rows (Answer (Value value)) is tells then =
+    absurd (different 4 6 (ap length is ∙ way_length value.value.way) (omega arith))
+by_call rows (Answer (Reference reference)) is tells then = absurd (different 4 3 (ap length is) (omega arith))
+by_call rows (Answer (Explanation word)) is tells then = absurd (different 4 7 (ap length is) (omega arith))
+by_call rows (Answer (Description reference)) is tells then = absurd (different 4 9 (ap length is) (omega arith))

@@ -8,7 +8,7 @@ use Rattle.type_graph.specs.declared.width.Order.{Order}
 use Rattle.type_graph.specs.declared.width.Order.TheVariants.{Big, Little}
 use Rattle.command_words.specs.Ask.{CallAsk, call_ask_of}
 use Rattle.command_words.specs.declared.task.CallTask.{CallTask}
-use Rattle.command_words.specs.Words.{TellsCall, TellsOption, TellsOrder, word_of, word_of_flag}
+use Rattle.command_words.specs.Words.{TellsCall, TellsExplain, TellsOption, TellsOrder, word_of, word_of_flag}
 use Rattle.command_words.proofs.FoundRequests.{different, order_of, same_some}
 
 module _ (found : Found) where
@@ -41,6 +41,14 @@ module _ (found : Found) where
       → (one_text found id ≡ Some (codes "false") → result ≡ false) → result ≡ flag
   flag_is id true result is on off = on (one_text-rows found id ∙ is)
   flag_is id false result is on off = off (one_text-rows found id ∙ is)
+
+  pub explain_is : (flag result : Bool) → TellsExplain (rows_of found) flag
+      → (one_text found (codes "explain") ≡ None → result ≡ false)
+      → (one_text found (codes "explain") ≡ Some (codes "true") → result ≡ true)
+      → (one_text found (codes "explain") ≡ Some (codes "false") → result ≡ false) → result ≡ flag
+  explain_is flag result (inl is) none on off = flag_is (codes "explain") flag result is on off
+  explain_is flag result (inr left_out) none on off = none (one_text-rows found (codes "explain") ∙ left_out.0)
+      ∙ sym left_out.1
 
   pub found_is : (id a b : Text) → Some a ≡ first_value found id → first_of id (rows_of found) ≡ Some b → a ≡ b
   found_is id a b is there = same_some (first_value found id) a b (sym is) (first_value-rows found id ∙ there)

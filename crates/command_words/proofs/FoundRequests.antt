@@ -6,12 +6,12 @@ use Rattle.clap.specs.declared.parser.matches.Found.{Found}
 use Rattle.clap.proofs.WalkLemmas.{first_value-rows, one_text-rows}
 use Rattle.type_graph.specs.declared.width.Order.{Order}
 use Rattle.type_graph.specs.declared.width.Order.TheVariants.{Big, Little}
-use Rattle.command_tables.specs.declared.values.Way.{Way}
-use Rattle.command_tables.specs.declared.values.Way.TheVariants.{Encode, Decode}
+use Rattle.command_words.specs.declared.requests.value.Way.{Way}
+use Rattle.command_words.specs.declared.requests.value.Way.TheVariants.{Encode, Decode}
 use Rattle.command_words.specs.Way.{name_of}
 use Rattle.command_words.specs.declared.task.ValueTask.{ValueTask}
 use Rattle.command_words.specs.Ask.{Value, ValueAsk, value_ask_of}
-use Rattle.command_words.specs.declared.task.Form.{Form}
+use Rattle.command_words.specs.declared.requests.value.Form.{Form}
 use Rattle.command_words.specs.Words.{TellsPlace, word_of}
 
 pub same_some : (found : Option Text) (a b : Text) → found ≡ Some a → found ≡ Some b → a ≡ b

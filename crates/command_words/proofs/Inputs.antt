@@ -1,10 +1,10 @@
 -- In which form a value to encode or to decode is asked for.
 use Rattle.std.proofs.Common.{◌≡◌, ◌∙◌, refl, sym, false, true, List, Option, Some, None, is_some, codes, ap, Bool}
 use Rattle.clap.specs.Words.{Row, Text, first_of, one_of}
-use Rattle.command_tables.specs.declared.values.Way.{Way}
-use Rattle.command_tables.specs.declared.values.Way.TheVariants.{Encode, Decode}
-use Rattle.command_words.specs.declared.task.Form.{Form}
-use Rattle.command_words.specs.declared.task.Form.TheVariants as forms
+use Rattle.command_words.specs.declared.requests.value.Way.{Way}
+use Rattle.command_words.specs.declared.requests.value.Way.TheVariants.{Encode, Decode}
+use Rattle.command_words.specs.declared.requests.value.Form.{Form}
+use Rattle.command_words.specs.declared.requests.value.Form.TheVariants as forms
 use Rattle.command_words.specs.Words.{TellsInput}
 use Rattle.command_words.proofs.FoundRequests.{same_some}
 

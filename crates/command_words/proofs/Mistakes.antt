@@ -1,5 +1,5 @@
 -- What is answered to words that clap refuses.
-use Rattle.std.proofs.Common.{◌≡◌, ◌≢◌, inl, inr, [], ◌∷◌, All, Result, Ok, Err, IsErr, IsErrAnd, IfErr, true, false}
+use Rattle.std.proofs.Common.{◌≡◌, ◌≢◌, inl, inr, [], ◌∷◌, All, Result, Ok, Err, IsErr, IsErrAnd, IsOkAnd, MatchResult, IfErr, true, false}
 use Rattle.std.proofs.lemmas.List.Elements.{All-head, All-tail}
 use Rattle.clap.specs.Words.{HasKind, IsAmong, Kinds, kind_of}
 use Rattle.clap.specs.declared.error.Error.{Error}
@@ -38,3 +38,8 @@ refused_words kinds error mistakes (inl memory) result no_memory usage of_words 
 refused_words kinds error mistakes (inr is) result no_memory usage of_words =
     let wrong = mistake (kind_of error) kinds mistakes is in
     refused result (usage wrong.0 wrong.1) of_words
+
+pub told_or_refused : {A B : Type 0} (result : Result A B) (P : A → Type 0) (Q : B → Type 0) → IsOkAnd result P
+    → MatchResult result P Q
+told_or_refused (Ok value) P Q is = is
+told_or_refused (Err fault) P Q is = absurd is

@@ -8,12 +8,12 @@ use Rattle.clap.specs.declared.builder.value_parser.ValueParser.TheVariants.{Boo
 use Rattle.clap.specs.declared.parser.matches.ValueSource.TheVariants.{CommandLine, DefaultValue}
 use Rattle.clap.proofs.OnLiterals.{clap_on_literals}
 use Rattle.type_graph.specs.declared.width.Order.TheVariants.{Big}
-use Rattle.command_tables.specs.declared.values.Way.TheVariants.{Encode}
-use Rattle.command_words.specs.Ask.{Ask, CallAsk, DumpAsk, Explanation, Reference, Value}
-use Rattle.command_words.specs.declared.task.Form.TheVariants.{Hex, Text as AsText}
+use Rattle.command_words.specs.declared.requests.value.Way.TheVariants.{Encode}
+use Rattle.command_words.specs.Ask.{Answer, Ask, Call, CallAsk, Dump, DumpAsk, Explanation, Reference, Value}
+use Rattle.command_words.specs.declared.requests.value.Form.TheVariants.{Hex, Text as AsText}
 use Rattle.command_words.specs.Commands.{program_app}
 use Rattle.command_words.specs.Spoken.{spoken}
-use Rattle.command_words.specs.Words.{AsksFor, AsksForCall, AsksForDump, IsReadAs, IsReadAsCall, IsReadAsDump, Tells, TellsCall, TellsDump, texts}
+use Rattle.command_words.specs.Words.{AsksFor, IsReadAs, Tells, TellsCall, TellsDump, texts}
 
 abbrev words : List Text
 words = codes "idlc" ∷ codes "encode" ∷ codes "builtin" ∷ codes "S" ∷ codes "big" ∷ codes "12" ∷ codes "07" ∷ []
@@ -80,7 +80,7 @@ module _ (orders : Bor (List (Bor Text))) (are : texts orders.now ≡ codes "big
     input = (refl, refl);
   }
 
-  pub is_read : IsReadAs (program_app (Names orders)) words ask
+  pub is_read : IsReadAs (program_app (Names orders)) words (Answer ask)
   is_read = record {
     taken = are_taken;
     rows = found;
@@ -89,7 +89,7 @@ module _ (orders : Bor (List (Bor Text))) (are : texts orders.now ≡ codes "big
   }
 
 -- so a clause that speaks of what words ask for speaks of these
-pub words_ask : AsksFor words ask
+pub words_ask : AsksFor words (Answer ask)
 words_ask orders takes_orders = rw takes_orders.is_of_names (is_read takes_orders.names takes_orders.are_orders)
 
 -- a text that begins with a minus
@@ -137,7 +137,7 @@ module _ (orders : Bor (List (Bor Text))) (are : texts orders.now ≡ codes "big
     input = (refl, refl);
   }
 
-  pub dashed_read : IsReadAs (program_app (Names orders)) (spoken dashed_words) dashed_ask
+  pub dashed_read : IsReadAs (program_app (Names orders)) (spoken dashed_words) (Answer dashed_ask)
   dashed_read = record {
     taken = dashed_taken;
     rows = dashed_found;
@@ -145,7 +145,7 @@ module _ (orders : Bor (List (Bor Text))) (are : texts orders.now ≡ codes "big
     tells = dashed_tells;
   }
 
-pub dashed_words_ask : AsksFor dashed_words dashed_ask
+pub dashed_words_ask : AsksFor dashed_words (Answer dashed_ask)
 dashed_words_ask orders takes_orders =
     rw takes_orders.is_of_names (dashed_read takes_orders.names takes_orders.are_orders)
 
@@ -222,7 +222,7 @@ module _ (orders : Bor (List (Bor Text))) where
   unfolding clap_on_literals
   list_tells = refl
 
-  pub reference_read : IsReadAs (program_app (Names orders)) reference_words reference_ask
+  pub reference_read : IsReadAs (program_app (Names orders)) reference_words (Answer reference_ask)
   reference_read = record {
     taken = reference_taken;
     rows = reference_found;
@@ -230,7 +230,7 @@ module _ (orders : Bor (List (Bor Text))) where
     tells = reference_tells;
   }
 
-  pub explain_read : IsReadAs (program_app (Names orders)) explain_words (Explanation (Some (codes "Limit")))
+  pub explain_read : IsReadAs (program_app (Names orders)) explain_words (Answer (Explanation (Some (codes "Limit"))))
   explain_read = record {
     taken = explain_taken;
     rows = explain_found;
@@ -238,7 +238,7 @@ module _ (orders : Bor (List (Bor Text))) where
     tells = explain_tells;
   }
 
-  pub list_read : IsReadAs (program_app (Names orders)) list_words (Explanation None)
+  pub list_read : IsReadAs (program_app (Names orders)) list_words (Answer (Explanation None))
   list_read = record {
     taken = list_taken;
     rows = [];
@@ -246,13 +246,13 @@ module _ (orders : Bor (List (Bor Text))) where
     tells = list_tells;
   }
 
-pub reference_words_ask : AsksFor reference_words reference_ask
+pub reference_words_ask : AsksFor reference_words (Answer reference_ask)
 reference_words_ask orders takes_orders = rw takes_orders.is_of_names (reference_read takes_orders.names)
 
-pub explain_words_ask : AsksFor explain_words (Explanation (Some (codes "Limit")))
+pub explain_words_ask : AsksFor explain_words (Answer (Explanation (Some (codes "Limit"))))
 explain_words_ask orders takes_orders = rw takes_orders.is_of_names (explain_read takes_orders.names)
 
-pub list_words_ask : AsksFor list_words (Explanation None)
+pub list_words_ask : AsksFor list_words (Answer (Explanation None))
 list_words_ask orders takes_orders = rw takes_orders.is_of_names (list_read takes_orders.names)
 
 -- a call without options
@@ -351,7 +351,7 @@ module _ (orders : Bor (List (Bor Text))) where
     });
   }
 
-  pub call_read : IsReadAsCall (program_app (Names orders)) call_words call_ask
+  pub call_read : IsReadAs (program_app (Names orders)) call_words (Call call_ask)
   call_read = record {
     taken = call_taken;
     rows = call_found;
@@ -359,7 +359,7 @@ module _ (orders : Bor (List (Bor Text))) where
     tells = call_tells;
   }
 
-  pub long_call_read : IsReadAsCall (program_app (Names orders)) long_call_words long_call_ask
+  pub long_call_read : IsReadAs (program_app (Names orders)) long_call_words (Call long_call_ask)
   long_call_read = record {
     taken = long_call_taken;
     rows = long_call_found;
@@ -367,10 +367,10 @@ module _ (orders : Bor (List (Bor Text))) where
     tells = long_call_tells;
   }
 
-pub call_words_ask : AsksForCall call_words call_ask
+pub call_words_ask : AsksFor call_words (Call call_ask)
 call_words_ask orders takes_orders = rw takes_orders.is_of_names (call_read takes_orders.names)
 
-pub long_call_words_ask : AsksForCall long_call_words long_call_ask
+pub long_call_words_ask : AsksFor long_call_words (Call long_call_ask)
 long_call_words_ask orders takes_orders = rw takes_orders.is_of_names (long_call_read takes_orders.names)
 
 -- a capture of standard input
@@ -420,10 +420,10 @@ module _ (orders : Bor (List (Bor Text))) where
   unfolding clap_on_literals
   two_files_tells = record { table = refl; file = refl; back = refl; follow = refl }
 
-  pub dump_read : IsReadAsDump (program_app (Names orders)) dump_words dump_ask
+  pub dump_read : IsReadAs (program_app (Names orders)) dump_words (Dump dump_ask)
   dump_read = record { taken = dump_taken; rows = dump_found; command = is_dump; tells = dump_tells }
 
-  pub two_files_read : IsReadAsDump (program_app (Names orders)) two_files_words two_files_ask
+  pub two_files_read : IsReadAs (program_app (Names orders)) two_files_words (Dump two_files_ask)
   two_files_read = record {
     taken = two_files_taken;
     rows = two_files_found;
@@ -432,8 +432,8 @@ module _ (orders : Bor (List (Bor Text))) where
         two_files_tells;
   }
 
-pub dump_words_ask : AsksForDump dump_words dump_ask
+pub dump_words_ask : AsksFor dump_words (Dump dump_ask)
 dump_words_ask orders takes_orders = rw takes_orders.is_of_names (dump_read takes_orders.names)
 
-pub two_files_words_ask : AsksForDump two_files_words two_files_ask
+pub two_files_words_ask : AsksFor two_files_words (Dump two_files_ask)
 two_files_words_ask orders takes_orders = rw takes_orders.is_of_names (two_files_read takes_orders.names)

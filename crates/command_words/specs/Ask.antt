@@ -1,15 +1,19 @@
 -- What a run may be asked for.
 use Rattle.std.specs.Prelude.{ℕ, Bool, List, Option, Some, None, codes, option_map}
 use Rattle.type_graph.specs.declared.width.Order.{Order}
-use Rattle.command_tables.specs.Answer.{Ask as Marshalling, ask_of as marshalling_of}
-use Rattle.command_tables.specs.References.{ReferenceParts, reference_parts_of}
-use Rattle.command_words.specs.declared.task.Form.{Form}
+use Rattle.command_words.specs.Requests.{Ask as Marshalling, ask_of as marshalling_of}
+use Rattle.command_words.specs.Requests.{ReferenceParts, reference_parts_of}
+use Rattle.command_words.specs.declared.requests.value.Form.{Form}
 use Rattle.command_words.specs.declared.task.ValueTask.{ValueTask}
 use Rattle.command_words.specs.declared.task.ReferenceTask.{ReferenceTask}
 use Rattle.command_words.specs.declared.task.CallTask.{CallTask}
 use Rattle.command_words.specs.declared.task.DumpTask.{DumpTask}
+use Rattle.command_words.specs.declared.task.TableTask.{TableTask}
+use Rattle.command_words.specs.declared.task.TableTask.TheVariants as tables
 use Rattle.command_words.specs.declared.task.Task.{Task}
 use Rattle.command_words.specs.declared.task.Task.TheVariants as tasks
+use Rattle.command_words.specs.declared.task.Said.{Said}
+use Rattle.command_words.specs.declared.task.Said.TheVariants as lines
 use Rattle.command_words.specs.Way.{name_of}
 
 -- a value of a table, in a form
@@ -48,6 +52,12 @@ pub data Ask : Type 0 where
   -- what a reference says
   Description : List ℕ → Ask
 
+-- what words ask for: an answer, a call, or what a capture says
+pub data Asked : Type 0 where
+  Answer : Ask → Asked
+  Call : CallAsk → Asked
+  Dump : DumpAsk → Asked
+
 abbrev pub value_ask_of : ValueTask → ValueAsk
 value_ask_of asked = record {
   table = asked.table.now;
@@ -77,13 +87,30 @@ dump_ask_of asked = record {
   follow = asked.follow;
 }
 
+-- the name of the table of a task
+abbrev pub table_of : TableTask → List ℕ
+table_of (tables.Value asked) = asked.table.now
+table_of (tables.Reference asked) = asked.table.now
+table_of (tables.Check table) = table.now
+table_of (tables.Show table types) = table.now
+
 -- what a task answers, but for tables
+abbrev pub table_ask_of : TableTask → Option Ask
+table_ask_of (tables.Value asked) = Some (Value (value_ask_of asked))
+table_ask_of (tables.Reference asked) = Some (Reference (reference_ask_of asked))
+table_ask_of task = None
+
 abbrev pub ask_of : Task → Option Ask
-ask_of (tasks.Value asked) = Some (Value (value_ask_of asked))
-ask_of (tasks.Reference asked) = Some (Reference (reference_ask_of asked))
+ask_of (tasks.Table task) = table_ask_of task
 ask_of (tasks.Explain word) = Some (Explanation (option_map (λ text. text.now) word))
 ask_of (tasks.Describe reference) = Some (Description reference.now)
 ask_of task = None
+
+abbrev pub asked_of : Said → Option Asked
+asked_of (lines.Do task) = option_map Answer (ask_of task)
+asked_of (lines.Call task) = Some (Call (call_ask_of task))
+asked_of (lines.Dump task) = Some (Dump (dump_ask_of task))
+asked_of said = None
 
 -- the command that asks for it
 abbrev pub command_of : Ask → List ℕ
@@ -91,3 +118,8 @@ command_of (Value ask) = name_of ask.value.way
 command_of (Reference ask) = codes "ior"
 command_of (Explanation word) = codes "explain"
 command_of (Description reference) = codes "reference"
+
+abbrev pub asking_command : Asked → List ℕ
+asking_command (Answer ask) = command_of ask
+asking_command (Call ask) = codes "call"
+asking_command (Dump ask) = codes "dump"

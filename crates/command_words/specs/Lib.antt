@@ -4,3 +4,4 @@ pub mod Mistake
 pub mod Spoken
 pub mod Way
 pub mod Words
+pub mod Requests

@@ -1,6 +1,6 @@
 -- The words of a line as clap is to read them: it takes a word that begins with a minus for an option, though it be the
 -- value of one.
-use Rattle.std.specs.Prelude.{◌==◌, ◌&&◌, nat_lt, Bool, true, false, List, [], ◌∷◌, ◌++◌, length, slice_index, codes, if◌then◌else◌}
+use Rattle.std.specs.Prelude.{◌==◌, ◌&&◌, nat_lt, Bool, List, [], ◌∷◌, ◌++◌, length, slice_index, codes, if◌then◌else◌}
 use Rattle.std.specs.Str.{bytes_eq}
 use Rattle.clap.specs.Words.{Text}
 
@@ -28,11 +28,3 @@ spoken [] = []
 spoken (program ∷ []) = program ∷ []
 spoken (program ∷ command ∷ rest) =
     if bytes_eq command (codes "encode") then program ∷ command ∷ glued rest else program ∷ command ∷ rest
-
--- the flag `--explain` stands among words; behind a word `--` none is a flag
-abbrev pub asks_to_explain : List Text → Bool
-asks_to_explain [] = false
-asks_to_explain (word ∷ rest) =
-    if bytes_eq word (codes "--explain") then true
-    else if bytes_eq word (codes "--") then false
-    else asks_to_explain rest

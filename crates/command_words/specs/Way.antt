@@ -1,7 +1,7 @@
 -- The commands that marshal a value.
 use Rattle.std.specs.Prelude.{ℕ, List, codes}
-use Rattle.command_tables.specs.declared.values.Way.{Way}
-use Rattle.command_tables.specs.declared.values.Way.TheVariants.{Encode, Decode}
+use Rattle.command_words.specs.declared.requests.value.Way.{Way}
+use Rattle.command_words.specs.declared.requests.value.Way.TheVariants.{Encode, Decode}
 
 -- the word that asks for one
 abbrev pub name_of : Way → List ℕ

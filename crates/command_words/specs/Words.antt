@@ -10,11 +10,11 @@ use Rattle.clap.specs.declared.error.kind.ErrorKind.{ErrorKind}
 use Rattle.clap.specs.declared.error.kind.ErrorKind.TheVariants.{DisplayHelp, DisplayVersion}
 use Rattle.type_graph.specs.declared.width.Order.{Order}
 use Rattle.type_graph.specs.declared.width.Order.TheVariants.{Big, Little}
-use Rattle.command_tables.specs.declared.values.Way.{Way}
-use Rattle.command_tables.specs.declared.values.Way.TheVariants.{Encode, Decode}
-use Rattle.command_words.specs.declared.task.Form.{Form}
-use Rattle.command_words.specs.declared.task.Form.TheVariants as forms
-use Rattle.command_words.specs.Ask.{Ask, CallAsk, DumpAsk, Description, Explanation, Reference, ReferenceAsk, Value, ValueAsk, command_of}
+use Rattle.command_words.specs.declared.requests.value.Way.{Way}
+use Rattle.command_words.specs.declared.requests.value.Way.TheVariants.{Encode, Decode}
+use Rattle.command_words.specs.declared.requests.value.Form.{Form}
+use Rattle.command_words.specs.declared.requests.value.Form.TheVariants as forms
+use Rattle.command_words.specs.Ask.{Answer, Ask, Asked, Call, CallAsk, Dump, DumpAsk, Description, Explanation, Reference, ReferenceAsk, Value, ValueAsk, asking_command}
 use Rattle.command_words.specs.Commands.{program_app}
 use Rattle.command_words.specs.Spoken.{spoken}
 
@@ -86,16 +86,6 @@ Tells rows (Reference ask) = TellsReference rows ask
 Tells rows (Explanation word) = TellsRefusal rows word
 Tells rows (Description reference) = TellsDescription rows reference
 
-pub record IsReadAs (app : App) (words : List Text) (ask : Ask) : Type 0 where
-  pub taken : takes app words ≡ true
-  pub rows : List Row
-  pub command : subcommand_of app words ≡ Some (command_of ask, rows)
-  pub tells : Tells rows ask
-
--- clap takes the words, and they ask for this
-abbrev pub AreReadAs : List Text → Ask → Type 0
-AreReadAs words ask = (orders : ValueParser) → TakesOrders orders → IsReadAs (program_app orders) words ask
-
 -- the option that was found is this number, of 32 bits; or there is none, and the number is that of none
 abbrev pub TellsOption : Text → ℕ → List Row → ℕ → Type 0
 TellsOption id of_none rows number = TellsWhole id 32 rows number ⊎ ((one_of id rows ≡ None) × (number ≡ of_none))
@@ -113,20 +103,6 @@ pub record TellsCall (rows : List Row) (ask : CallAsk) : Type 0 where
   pub wait : TellsOption (codes "wait") 30 rows ask.wait
   pub repeat : TellsOption (codes "repeat") 1 rows ask.repeat
 
-pub record IsReadAsCall (app : App) (words : List Text) (ask : CallAsk) : Type 0 where
-  pub taken : takes app words ≡ true
-  pub rows : List Row
-  pub command : subcommand_of app words ≡ Some (codes "call", rows)
-  pub tells : TellsCall rows ask
-
--- clap takes the words, and they ask for this call
-abbrev pub AreReadAsCall : List Text → CallAsk → Type 0
-AreReadAsCall words ask = (orders : ValueParser) → TakesOrders orders → IsReadAsCall (program_app orders) words ask
-
--- it takes the words of a run as they are spoken
-abbrev pub AsksForCall : List Text → CallAsk → Type 0
-AsksForCall words ask = AreReadAsCall (spoken words) ask
-
 -- what is found for a flag that stands there, or doesn't
 abbrev pub word_of_flag : Bool → Text
 word_of_flag true = codes "true"
@@ -138,23 +114,44 @@ pub record TellsDump (rows : List Row) (ask : DumpAsk) : Type 0 where
   pub back : first_of (codes "BACK") rows ≡ ask.back
   pub follow : one_of (codes "follow") rows ≡ Some (word_of_flag ask.follow)
 
-pub record IsReadAsDump (app : App) (words : List Text) (ask : DumpAsk) : Type 0 where
+abbrev pub TellsAsked : List Row → Asked → Type 0
+TellsAsked rows (Answer ask) = Tells rows ask
+TellsAsked rows (Call ask) = TellsCall rows ask
+TellsAsked rows (Dump ask) = TellsDump rows ask
+
+pub record IsReadAs (app : App) (words : List Text) (asked : Asked) : Type 0 where
   pub taken : takes app words ≡ true
   pub rows : List Row
-  pub command : subcommand_of app words ≡ Some (codes "dump", rows)
-  pub tells : TellsDump rows ask
+  pub command : subcommand_of app words ≡ Some (asking_command asked, rows)
+  pub tells : TellsAsked rows asked
 
--- clap takes the words, and they ask what this capture says
-abbrev pub AreReadAsDump : List Text → DumpAsk → Type 0
-AreReadAsDump words ask = (orders : ValueParser) → TakesOrders orders → IsReadAsDump (program_app orders) words ask
-
--- it takes the words of a run as they are spoken
-abbrev pub AsksForDump : List Text → DumpAsk → Type 0
-AsksForDump words ask = AreReadAsDump (spoken words) ask
+-- clap takes the words, and they ask for this
+abbrev pub AreReadAs : List Text → Asked → Type 0
+AreReadAs words asked = (orders : ValueParser) → TakesOrders orders → IsReadAs (program_app orders) words asked
 
 -- it takes the words of a run as they are spoken
-abbrev pub AsksFor : List Text → Ask → Type 0
-AsksFor words ask = AreReadAs (spoken words) ask
+abbrev pub AsksFor : List Text → Asked → Type 0
+AsksFor words asked = AreReadAs (spoken words) asked
+
+-- the flag `--explain` is there, or isn't
+abbrev pub TellsExplain : List Row → Bool → Type 0
+TellsExplain rows flag = (one_of (codes "explain") rows ≡ Some (word_of_flag flag))
+    ⊎ ((one_of (codes "explain") rows ≡ None) × (flag ≡ false))
+
+pub record HasExplain (app : App) (words : List Text) (flag : Bool) : Type 0 where
+  pub taken : takes app words ≡ true
+  pub name : Text
+  pub rows : List Row
+  pub command : subcommand_of app words ≡ Some (name, rows)
+  pub tells : TellsExplain rows flag
+
+-- clap takes the words, with the flag or without it
+abbrev pub HaveExplain : List Text → Bool → Type 0
+HaveExplain words flag = (orders : ValueParser) → TakesOrders orders → HasExplain (program_app orders) words flag
+
+-- so the words of a run as they are spoken
+abbrev pub AskToExplain : List Text → Bool → Type 0
+AskToExplain words flag = HaveExplain (spoken words) flag
 
 -- a kind of error that tells of wrong words
 abbrev pub IsMistake : ErrorKind → Type 0

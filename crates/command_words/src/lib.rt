@@ -2,14 +2,15 @@
 #![tactic(auto)]
 
 mod commands;
-mod explained;
 mod line;
 mod matches;
 mod mistake;
+pub mod requests;
 mod spoken;
 mod task;
 
-pub use explained::explains;
 pub use line::parse;
 pub use mistake::Mistake;
-pub use task::{CallTask, DumpTask, Form, ReferenceTask, Said, Service, Task, ValueTask};
+pub use task::{
+    CallTask, DumpTask, Line, ReferenceTask, Said, Service, TableTask, Task, ValueTask,
+};

@@ -1,15 +1,18 @@
 //! What `clap` found for the words of a command.
 
-ghost use Rattle.std.specs.Prelude.{◌≡◌, ◌<◌, ◌^◌, ◌↔◌, IsSome, IsSomeAnd, ℕ, List, Option, codes, IfSome, Some, None};
+ghost use Rattle.std.specs.Prelude.{◌≡◌, ◌<◌, ◌^◌, ◌↔◌, Bool, Err, IfOk, IfSome, IsOkAnd, IsSome, IsSomeAnd, ℕ, List, Option, codes, Some, None};
 ghost use Rattle.std.specs.Str.Parse.{IsNumeral, digits_value, without_leading_plus};
-ghost use Rattle.clap.specs.Words.{rows_of, Row, subcommand_rows_of};
+ghost use Rattle.clap.specs.Words.{rows_of, Row, Text, subcommand_rows_of};
 ghost use Rattle.clap.specs.Matches.{found_of, first_value, one_text};
-ghost use Rattle.command_words.specs.Ask.{Ask, CallAsk, DumpAsk, Description, Explanation, Reference, ReferenceAsk, Value, ValueAsk, ask_of, call_ask_of, command_of, dump_ask_of};
-ghost use Rattle.command_words.specs.Words.{IsUnclear, Tells, TellsCall, TellsDump, TellsDescription, TellsPlace, TellsReference, TellsRefusal, TellsValue};
+ghost use Rattle.command_words.specs.Ask.{Answer, Ask, Asked, CallAsk, DumpAsk, Description, Explanation, Reference, ReferenceAsk, Value, ValueAsk, ask_of, asked_of, asking_command, call_ask_of, command_of, dump_ask_of};
+ghost use Rattle.command_words.specs.Words.{IsUnclear, Tells, TellsAsked, TellsCall, TellsDump, TellsDescription, TellsExplain, TellsPlace, TellsReference, TellsRefusal, TellsValue};
 
-use crate::task::{CallTask, DumpTask, Form, ReferenceTask, Service, Task, ValueTask};
+use crate::mistake::Mistake;
+use crate::requests::{Form, ReferenceRequest, ValueRequest, Way};
+use crate::task::{
+    CallTask, DumpTask, Line, ReferenceTask, Said, Service, TableTask, Task, ValueTask,
+};
 use clap::ArgMatches;
-use command_tables::{ReferenceRequest, ValueRequest, Way};
 use type_graph::Order;
 
 fn asked_in<'a>(
@@ -59,10 +62,8 @@ fn value<'a>(way: Way, form: Form, words: &ArgMatches<'a>, input: &'a str) -> Op
         → TellsPlace (rows_of (found_of words.now)) ask
         → IsSomeAnd result (λ task. ask_of task ≡ Some (Value ask)) }
 {
-    match asked_in(way, form, words, input) {
-        Some(asked) => Some(Task::Value(asked)),
-        None => None,
-    }
+    let asked = asked_in(way, form, words, input)?;
+    Some(Task::Table(TableTask::Value(asked)))
 }
 
 /// A value to encode, by its tape or its text: by one of them.
@@ -123,10 +124,8 @@ fn reference<'a>(words: &ArgMatches<'a>) -> Option<Task<'a>>
     ensures { (ask : ReferenceAsk) → TellsReference (rows_of (found_of words.now)) ask
         → IsSomeAnd result (λ task. ask_of task ≡ Some (Reference ask)) }
 {
-    match reference_in(words) {
-        Some(asked) => Some(Task::Reference(asked)),
-        None => None,
-    }
+    let asked = reference_in(words)?;
+    Some(Task::Table(TableTask::Reference(asked)))
 }
 
 fn explain<'a>(words: &ArgMatches<'a>) -> Task<'a>
@@ -161,43 +160,19 @@ fn compile<'a>(matches: &ArgMatches<'a>) -> Option<Task<'a>> {
     })
 }
 
-/// What the words ask for, but for calls to serve. `clap` has seen to it that none is missing.
-pub(crate) fn task_in<'a>(matches: &ArgMatches<'a>) -> Option<Task<'a>>
-    ensures asked { (ask : Ask) (rows : List Row) → subcommand_rows_of matches.now ≡ Some (command_of ask, rows)
-        → Tells rows ask → IsSomeAnd result (λ task. ask_of task ≡ Some ask) }
-    ensures unclear { (rows : List Row) → subcommand_rows_of matches.now ≡ Some (codes "encode", rows)
-        → IsUnclear rows → result ≡ None }
-    ensures called { (rows : List Row) → subcommand_rows_of matches.now ≡ Some (codes "call", rows) → result ≡ None }
-    ensures dumped { (rows : List Row) → subcommand_rows_of matches.now ≡ Some (codes "dump", rows) → result ≡ None }
-{
-    let (name, words) = matches.subcommand()?;
-    match name {
-        "encode" => to_encode(words),
-        "decode" => to_decode(words),
-        "check" => Some(Task::Check {
-            table: words.get_str("T")?,
-        }),
-        "show" => Some(Task::Show {
-            table: words.get_str("T")?,
-            types: words.get_flag("types"),
-        }),
-        "upgrade" => upgrade(words),
-        "compile" => compile(words),
-        "ior" => reference(words),
-        "explain" => Some(explain(words)),
-        "reference" => describe(words),
-        _ => None,
-    }
+fn check<'a>(words: &ArgMatches<'a>) -> Option<Task<'a>> {
+    let table = words.get_str("T")?;
+    Some(Task::Table(TableTask::Check { table }))
 }
 
-/// The calls that the words ask to serve.
-pub(crate) fn service_in<'a>(matches: &ArgMatches<'a>) -> Option<Service<'a>>
-    ensures { (rows : List Row) → subcommand_rows_of matches.now ≡ Some (codes "encode", rows) → result ≡ None }
-{
-    let (name, words) = matches.subcommand()?;
-    if name != "serve" {
-        return None;
-    }
+fn show<'a>(words: &ArgMatches<'a>) -> Option<Task<'a>> {
+    Some(Task::Table(TableTask::Show {
+        table: words.get_str("T")?,
+        types: words.get_flag("types"),
+    }))
+}
+
+fn serve<'a>(words: &ArgMatches<'a>) -> Option<Service<'a>> {
     Some(Service {
         table: words.get_str("T")?,
         port: words.get_one::<u16>("port")?,
@@ -246,19 +221,6 @@ fn call<'a>(words: &ArgMatches<'a>) -> Option<CallTask<'a>>
     })
 }
 
-/// The call that the words ask for.
-pub(crate) fn call_in<'a>(matches: &ArgMatches<'a>) -> Option<CallTask<'a>>
-    ensures asked { (ask : CallAsk) (rows : List Row) → subcommand_rows_of matches.now ≡ Some (codes "call", rows)
-        → TellsCall rows ask → IsSomeAnd result (λ task. call_ask_of task ≡ ask) }
-    ensures other { (rows : List Row) → subcommand_rows_of matches.now ≡ Some (codes "encode", rows) → result ≡ None }
-{
-    let (name, words) = matches.subcommand()?;
-    if name != "call" {
-        return None;
-    }
-    call(words)
-}
-
 fn dump<'a>(words: &ArgMatches<'a>) -> Option<DumpTask<'a>>
     ensures { (ask : DumpAsk) → TellsDump (rows_of (found_of words.now)) ask
         → IsSomeAnd result (λ task. dump_ask_of task ≡ ask) }
@@ -271,16 +233,62 @@ fn dump<'a>(words: &ArgMatches<'a>) -> Option<DumpTask<'a>>
     })
 }
 
-/// The capture of which the words ask what it says.
-pub(crate) fn dump_in<'a>(matches: &ArgMatches<'a>) -> Option<DumpTask<'a>>
-    ensures asked { (ask : DumpAsk) (rows : List Row) → subcommand_rows_of matches.now ≡ Some (codes "dump", rows)
-        → TellsDump rows ask → IsSomeAnd result (λ task. dump_ask_of task ≡ ask) }
-    ensures other { (rows : List Row) → subcommand_rows_of matches.now ≡ Some (codes "encode", rows) → result ≡ None }
-    ensures called { (rows : List Row) → subcommand_rows_of matches.now ≡ Some (codes "call", rows) → result ≡ None }
+/// What the words of a command ask for that isn't a call, a capture or to serve. `clap` has seen to it
+/// that none is missing.
+fn task_in<'a>(name: &str, words: &ArgMatches<'a>) -> Option<Task<'a>>
+    ensures asked { (ask : Ask) → name.now ≡ command_of ask → Tells (rows_of (found_of words.now)) ask
+        → IsSomeAnd result (λ task. ask_of task ≡ Some ask) }
+    ensures unclear { name.now ≡ codes "encode" → IsUnclear (rows_of (found_of words.now)) → result ≡ None }
 {
-    let (name, words) = matches.subcommand()?;
-    if name != "dump" {
-        return None;
+    match name {
+        "encode" => to_encode(words),
+        "decode" => to_decode(words),
+        "check" => check(words),
+        "show" => show(words),
+        "upgrade" => upgrade(words),
+        "compile" => compile(words),
+        "ior" => reference(words),
+        "explain" => Some(explain(words)),
+        "reference" => describe(words),
+        _ => None,
     }
-    dump(words)
+}
+
+/// What the words of a command say.
+fn said_in<'a>(name: &str, words: &ArgMatches<'a>) -> Option<Said<'a>>
+    ensures asked { (asked : Asked) → name.now ≡ asking_command asked → TellsAsked (rows_of (found_of words.now)) asked
+        → IsSomeAnd result (λ said. asked_of said ≡ Some asked) }
+    ensures unclear { name.now ≡ codes "encode" → IsUnclear (rows_of (found_of words.now)) → result ≡ None }
+{
+    match name {
+        "serve" => Some(Said::Serve(serve(words)?)),
+        "call" => Some(Said::Call(call(words)?)),
+        "dump" => Some(Said::Dump(dump(words)?)),
+        _ => Some(Said::Do(task_in(name, words)?)),
+    }
+}
+
+/// What the words say. Of words that ask for nothing it is told what is wrong with them: of a value to
+/// encode that it is there twice, or not at all.
+pub(crate) fn line_in<'a>(matches: &ArgMatches<'a>) -> Result<Line<'a>, Mistake>
+    ensures asked { (asked : Asked) (rows : List Row)
+        → subcommand_rows_of matches.now ≡ Some (asking_command asked, rows) → TellsAsked rows asked
+        → IsOkAnd result (λ line. asked_of line.said ≡ Some asked) }
+    ensures explains { (name : Text) (rows : List Row) (flag : Bool)
+        → subcommand_rows_of matches.now ≡ Some (name, rows) → TellsExplain rows flag
+        → IfOk result (λ line. line.explains ≡ flag) }
+    ensures unclear { (rows : List Row) → subcommand_rows_of matches.now ≡ Some (codes "encode", rows)
+        → IsUnclear rows → result ≡ Err Mistake.HexOrText }
+{
+    let Some((name, words)) = matches.subcommand() else {
+        return Err(Mistake::NoWord);
+    };
+    match said_in(name, words) {
+        Some(said) => Ok(Line {
+            said,
+            explains: words.get_flag("explain"),
+        }),
+        None if name == "encode" => Err(Mistake::HexOrText),
+        None => Err(Mistake::NoWord),
+    }
 }

@@ -1,16 +1,9 @@
 //! What a run of the program may be asked to do.
 
-use command_tables::{ReferenceRequest, ValueRequest};
-use type_graph::Order;
+ghost use Rattle.std.specs.Prelude.{◌≡◌};
 
-/// How a value stands in words and lines.
-#[derive(Clone, Copy, Debug, PartialEq, Eq)]
-pub enum Form {
-    /// As the hexadecimal digits of its tape.
-    Hex,
-    /// As text.
-    Text,
-}
+use crate::requests::{Form, ReferenceRequest, ValueRequest};
+use type_graph::Order;
 
 /// A value of a table.
 #[derive(Clone, Copy)]
@@ -79,19 +72,11 @@ pub struct DumpTask<'a> {
     pub follow: bool,
 }
 
-/// What a run is asked to do.
+/// What is asked of a table.
 #[derive(Clone, Copy)]
-pub enum Task<'a> {
+pub enum TableTask<'a> {
     Value(ValueTask<'a>),
     Reference(ReferenceTask<'a>),
-    /// What the refusals of a number or a name mean, or which there are.
-    Explain {
-        word: Option<&'a str>,
-    },
-    /// What a reference says.
-    Describe {
-        reference: &'a str,
-    },
     Check {
         table: &'a str,
     },
@@ -100,15 +85,34 @@ pub enum Task<'a> {
         /// Whether it is told too what the texts of values look like.
         types: bool,
     },
-    Upgrade {
-        table: &'a str,
-        output: &'a str,
-    },
+}
+
+impl<'a> TableTask<'a> {
+    ghost use Rattle.command_words.specs.Ask.{table_of};
+
+    /// The name of the table.
+    pub fn table(&self) -> &'a str
+        ensures { result.now ≡ table_of self.now }
+    {
+        match self {
+            TableTask::Value(asked) => asked.table,
+            TableTask::Reference(asked) => asked.table,
+            TableTask::Check { table } | TableTask::Show { table, .. } => table,
+        }
+    }
+}
+
+/// What a run is asked to do.
+#[derive(Clone, Copy)]
+pub enum Task<'a> {
+    Table(TableTask<'a>),
+    /// What the refusals of a number or a name mean, or which there are.
+    Explain { word: Option<&'a str> },
+    /// What a reference says.
+    Describe { reference: &'a str },
+    Upgrade { table: &'a str, output: &'a str },
     /// The table of an IDL file, in another file.
-    Compile {
-        source: &'a str,
-        output: &'a str,
-    },
+    Compile { source: &'a str, output: &'a str },
 }
 
 /// What the words say.
@@ -120,4 +124,12 @@ pub enum Said<'a> {
     Serve(Service<'a>),
     Call(CallTask<'a>),
     Dump(DumpTask<'a>),
+}
+
+/// A command line.
+#[derive(Drop)]
+pub struct Line<'a> {
+    pub said: Said<'a>,
+    /// Whether what else is known of a fault is asked for, by `--explain`.
+    pub explains: bool,
 }

@@ -1,36 +1,43 @@
--- What a task answers is what was asked for.
-use Rattle.std.proofs.Common.{◌≡◌, refl, sym, ℕ, List, Option, option_map, subst, Bor, Some, Result}
+-- What is answered by a table is what was asked for.
+use Rattle.std.proofs.Common.{◌≡◌, inl, inr, Some, IfOk, IfErr, Result, Ok, Err, string_bytes, subst}
 use Rattle.idlc_main.specs.declared.fault.Fault.{Fault}
-use Rattle.command_words.specs.declared.task.ValueTask.{ValueTask}
-use Rattle.command_words.specs.declared.task.ReferenceTask.{ReferenceTask}
-use Rattle.command_words.specs.declared.task.Task.{Task}
-use Rattle.command_words.specs.declared.task.Task.TheVariants as tasks
-use Rattle.command_words.specs.Ask.{Ask, Value, Reference, Explanation, Description, ask_of, reference_ask_of, value_ask_of}
-use Rattle.idlc_main.specs.Answer.{IsAnswer}
-use Rattle.command_tables.specs.Named.{Passing}
 use Rattle.idlc_main.specs.declared.told.Answer.{Answer}
-
--- the task that the words were read as asks for what they ask for
-pub same_task : (ask : Ask) (task other : Task) → task ≡ other → ask_of other ≡ Some ask → ask_of task ≡ Some ask
-same_task ask task other is asks = subst (λ (t : Task). ask_of t ≡ Some ask) (sym is) asks
+use Rattle.command_words.specs.declared.task.TableTask.{TableTask}
+use Rattle.command_words.specs.declared.task.TableTask.TheVariants as tables
+use Rattle.command_words.specs.Ask.{Ask, Value, Reference, reference_ask_of, table_ask_of, table_of, value_ask_of}
+use Rattle.idlc_main.specs.Answer.{IsAnswer}
+use Rattle.idlc_main.specs.Tables.{Answers, HasTable, IsRefusalBy, IsTableFault, IsUnloaded, Refuses}
+use Rattle.command_tables.specs.Named.{Passing}
+use Rattle.table_file.specs.Table.{TableParts}
+use Rattle.command_texts.specs.Lines.{Labels}
+use Rattle.command_files.specs.Loaded.{IsLoaded}
 
 module _ (Reads : Passing) (ask : Ask) (result : Result Answer Fault) where
   of_same : (other : Ask) → Some other ≡ Some ask → IsAnswer Reads other result → IsAnswer Reads ask result
   of_same other same is = let one : other ≡ ask = cc in subst (λ (a : Ask). IsAnswer Reads a result) one is
 
-  pub answers : (task : Task) → ask_of task ≡ Some ask
-      → ((asked : ValueTask) → task ≡ tasks.Value asked → IsAnswer Reads (Value (value_ask_of asked)) result)
-      → ((asked : ReferenceTask) → task ≡ tasks.Reference asked
-      → IsAnswer Reads (Reference (reference_ask_of asked)) result)
-      → ((word : Option (Bor (List ℕ))) → task ≡ tasks.Explain word
-      → IsAnswer Reads (Explanation (option_map (λ text. text.now) word)) result)
-      → ((word : Bor (List ℕ)) → task ≡ tasks.Describe word → IsAnswer Reads (Description word.now) result)
-      → IsAnswer Reads ask result
-  answers (tasks.Value asked) is value reference explanation description = of_same _ is (value asked refl)
-  answers (tasks.Reference asked) is value reference explanation description = of_same _ is (reference asked refl)
-  answers (tasks.Explain word) is value reference explanation description = of_same _ is (explanation word refl)
-  answers (tasks.Describe word) is value reference explanation description = of_same _ is (description word refl)
-  answers (tasks.Check table) is value reference explanation description = absurd cc
-  answers (tasks.Show table types) is value reference explanation description = absurd cc
-  answers (tasks.Upgrade table output) is value reference explanation description = absurd cc
-  answers (tasks.Compile source output) is value reference explanation description = absurd cc
+  by_task : (task : TableTask) → table_ask_of task ≡ Some ask
+      → IfOk result (λ answer. HasTable Reads (table_of task) (Answers Reads task (string_bytes answer.text)))
+      → IfErr result (IsTableFault Reads (table_of task) (Refuses Reads task)) → IsAnswer Reads ask result
+  by_task (tables.Value asked) is line fault =
+      of_same (Value (value_ask_of asked)) is (record { line = line; fault = fault })
+  by_task (tables.Reference asked) is line fault =
+      of_same (Reference (reference_ask_of asked)) is (record { line = line; fault = fault })
+  by_task (tables.Check name) is line fault = absurd cc
+  by_task (tables.Show name types) is line fault = absurd cc
+
+-- by the table that the name has
+module _ (Reads : Passing) (ask : Ask) (task : TableTask) (is : table_ask_of task ≡ Some ask) where
+  pub answers : (table : TableParts) (labels : Labels) (loaded : IsLoaded Reads (table_of task) table labels)
+      (result : Result Answer Fault)
+      → IfOk result (λ answer. Answers Reads task (string_bytes answer.text) table labels)
+      → IfErr result (IsRefusalBy (Refuses Reads task) table labels) → IsAnswer Reads ask result
+  answers table labels loaded (Ok answer) line fault =
+      by_task Reads ask (Ok answer) task is (record { table = table; labels = labels; is = loaded; so = line }) tt
+  answers table labels loaded (Err refused) line fault =
+      by_task Reads ask (Err refused) task is tt
+      (inr (record { table = table; labels = labels; is = loaded; so = fault }))
+
+  -- or it has none
+  pub no_answer : (fault : Fault) → IsUnloaded Reads (table_of task) fault → IsAnswer Reads ask (Err fault)
+  no_answer fault none = by_task Reads ask (Err fault) task is tt (inl none)

@@ -1,47 +1,52 @@
 -- How a run ends, on an answer or a fault.
-use Rattle.std.proofs.Common.{◌≡◌, refl, sym, ◌∙◌, subst, ℕ, ◌≤◌, ◌⊎◌, inl, inr, List, Option, Ok, Bor, string_bytes, arith}
+use Rattle.std.proofs.Common.{◌≡◌, refl, sym, ◌∙◌, subst, ℕ, ◌≤◌, ◌⊎◌, inl, inr, List, Option, Ok, string_bytes, arith}
 use Rattle.std.specs.Io.KnownBytes.{Appends}
 use Rattle.idlc_main.specs.declared.told.Answer.{Answer}
 use Rattle.idlc_main.specs.declared.fault.Fault.{Fault}
-use Rattle.idlc_main.specs.declared.fault.Fault.TheVariants.{Words, NotText, Refused, Unsaid, NotCompiled, Explained, NotSpelled, NotCapture, BadLine, CutShort, NoOperation, NotCalled, NotServed, Socket, NoRefusal, Unwritten, NoMemory}
+use Rattle.idlc_main.specs.declared.fault.Fault.TheVariants.{Words, Refused, NotCompiled, Explained, NotSpelled, NoRefusal}
 use Rattle.command_words.specs.declared.mistake.Mistake.{Mistake}
 use Rattle.command_words.specs.declared.mistake.Mistake.TheVariants as mistakes
 use Rattle.idl_compiler.specs.declared.fault.CompileFault.{CompileFault}
 use Rattle.idl_compiler.specs.declared.fault.CompileFault.TheVariants as sources
-use Rattle.command_files.specs.declared.fault.NamedFault.{NamedFault}
-use Rattle.command_files.specs.declared.fault.NamedFault.TheVariants as tables
-use Rattle.idlc_main.specs.Fault.{IsOfNamed, fault_of_source, fault_of_words, status_of, status_of_refusal, status_of_spelling}
+use Rattle.idlc_main.specs.Fault.{status_of}
+use Rattle.idlc_main.specs.Tables.{IsTableFault}
 use Rattle.command_tables.specs.Named.{Passing}
 use Rattle.command_tables.specs.declared.refusal.Refusal.{Refusal}
 use Rattle.command_tables.specs.declared.refusal.Refusal.TheVariants as refusals
+use Rattle.command_texts.specs.Lines.{Labels}
+use Rattle.table_file.specs.Table.{TableParts}
 use Rattle.command_words.specs.Ask.{Ask, Description, Explanation, Reference, Value}
 use Rattle.idlc_main.specs.Answer.{IsAnswer, IsEndOf, IsExplanationFault, IsFaultOf, IsStrange}
 use Rattle.idlc_main.specs.Descriptions.{IsDescriptionFault}
 use Rattle.reference_listing.specs.declared.spelled_references.fault.SpellingFault.{SpellingFault}
 use Rattle.reference_listing.specs.declared.spelled_references.fault.SpellingFault.TheVariants as spellings
 
--- a refusal is of the input, or of files or memory
-statuses : (refusal : Refusal) → (status_of_refusal refusal ≡ 1) ⊎ (3 ≤ status_of_refusal refusal)
-statuses (refusals.Unread file) = inr (omega arith)
-statuses (refusals.Unwritten file) = inr (omega arith)
-statuses refusals.NoMemory = inr (omega arith)
-statuses refusal = inl refl
+-- the input was refused, or it was not the input
+abbrev IsOrdinary : Fault → Type 0
+IsOrdinary fault = (status_of fault ≡ 1) ⊎ (3 ≤ status_of fault)
 
-source_statuses : (refusal : CompileFault) → (status_of (fault_of_source refusal) ≡ 1)
-    ⊎ (3 ≤ status_of (fault_of_source refusal))
-source_statuses sources.NoMemory = inr (omega arith)
-source_statuses refusal = inl refl
+refusals_are : (refusal : Refusal) → IsOrdinary (Refused refusal)
+refusals_are (refusals.Unread file) = inr (omega arith)
+refusals_are (refusals.Unwritten file) = inr (omega arith)
+refusals_are refusals.NoMemory = inr (omega arith)
+refusals_are refusal = inl refl
+
+sources_are : (refusal : CompileFault) → IsOrdinary (NotCompiled refusal)
+sources_are sources.NoMemory = inr (omega arith)
+sources_are refusal = inl refl
+
+spellings_are : (fault : SpellingFault) → IsOrdinary (NotSpelled fault)
+spellings_are spellings.NoMemory = inr (omega arith)
+spellings_are fault = inl refl
 
 -- so is the fault of a table that a word names
-named_statuses : (named : NamedFault) (fault : Fault) → IsOfNamed named fault → (status_of fault ≡ 1)
-    ⊎ (3 ≤ status_of fault)
-named_statuses (tables.Refused refusal) fault is =
-    subst (λ (f : Fault). (status_of f ≡ 1) ⊎ (3 ≤ status_of f)) (sym is) (statuses refusal)
-named_statuses (tables.Unsaid text) fault is =
-    subst (λ (f : Fault). (status_of f ≡ 1) ⊎ (3 ≤ status_of f)) (sym is) (inl refl)
-named_statuses (tables.NotCompiled refusal) (Explained same view) is = inl refl
-named_statuses (tables.NotCompiled refusal) fault is =
-    subst (λ (f : Fault). (status_of f ≡ 1) ⊎ (3 ≤ status_of f)) (sym is) (source_statuses refusal)
+tables_are : (Reads : Passing) (name : List ℕ) (Refuses : Refusal → TableParts → Labels → Type 0) (fault : Fault)
+    → IsTableFault Reads name Refuses fault → IsOrdinary fault
+tables_are Reads name Refuses (Refused refusal) is = refusals_are refusal
+tables_are Reads name Refuses (NotCompiled refusal) is = sources_are refusal
+tables_are Reads name Refuses (Explained refusal view) is = inl refl
+tables_are Reads name Refuses fault (inl is) = absurd is
+tables_are Reads name Refuses fault (inr is) = absurd is.so
 
 module _ (Reads : Passing) (ask : Ask) (old new : Option (List ℕ)) where
   -- the input was refused
@@ -81,20 +86,18 @@ module _ (Reads : Passing) (ask : Ask) (old new : Option (List ℕ)) where
   ends_said answer status (inr is_3) said is = ends_else status (omega arith)
 
   -- there was no memory to read the words
-  pub ends_unread : (mistake : Mistake) (fault : Fault) (status : ℕ) → mistake ≡ mistakes.NoMemory
-      → fault ≡ fault_of_words mistake → status ≡ status_of fault
+  pub ends_unread : (mistake : Mistake) (status : ℕ) → mistake ≡ mistakes.NoMemory → status ≡ status_of (Words mistake)
       → IsEndOf Reads ask status old new
-  ends_unread mistake fault status no_memory from is =
-      let same : fault ≡ NoMemory = subst (λ (m : Mistake). fault ≡ fault_of_words m) no_memory from in
-      let four : status ≡ 4 = subst (λ (f : Fault). status ≡ status_of f) same is in
+  ends_unread mistake status no_memory is =
+      let four : status ≡ 4 = subst (λ (m : Mistake). status ≡ status_of (Words m)) no_memory is in
       ends_else status (omega arith)
 
-  -- there was a fault of the table, or of what was asked of it
-  ends_named : (fault : Fault) (status : ℕ) → status ≡ status_of fault → (status_of fault ≡ 1) ⊎ (3 ≤ status_of fault)
+  -- there was a fault
+  ends_by : (fault : Fault) (status : ℕ) → status ≡ status_of fault → (status_of fault ≡ 1) ⊎ (3 ≤ status_of fault)
       → IsFaultOf Reads ask fault
       → IsEndOf Reads ask status old new
-  ends_named fault status is (inl one) why = ends_refused fault status (is ∙ one) one why
-  ends_named fault status is (inr above) why = ends_else status (subst (λ (n : ℕ). 3 ≤ n) (sym is) above)
+  ends_by fault status is (inl one) why = ends_refused fault status (is ∙ one) one why
+  ends_by fault status is (inr above) why = ends_else status (subst (λ (n : ℕ). 3 ≤ n) (sym is) above)
 
 -- no refusal is meant, or memory was wanted
 ends_meant : (Reads : Passing) (word : Option (List ℕ)) (old new : Option (List ℕ)) (fault : Fault) (status : ℕ)
@@ -102,60 +105,25 @@ ends_meant : (Reads : Passing) (word : Option (List ℕ)) (old new : Option (Lis
     → IsExplanationFault word fault → IsEndOf Reads (Explanation word) status old new
 ends_meant Reads word old new (NoRefusal other) status is told =
     ends_strange Reads (Explanation word) old new status is told.1
-ends_meant Reads word old new NoMemory status is told = ends_else Reads (Explanation word) old new status (omega arith)
-ends_meant Reads word old new (Words mistake) status is told = absurd told
-ends_meant Reads word old new NotText status is told = absurd told
-ends_meant Reads word old new (Refused refusal) status is told = absurd told
-ends_meant Reads word old new (Unsaid text) status is told = absurd told
-ends_meant Reads word old new (NotCompiled refusal) status is told = absurd told
-ends_meant Reads word old new (Explained refusal view) status is told = absurd told
-ends_meant Reads word old new (NotSpelled other) status is told = absurd told
-ends_meant Reads word old new (NotCapture other) status is told = absurd told
-ends_meant Reads word old new (BadLine other) status is told = absurd told
-ends_meant Reads word old new (CutShort other) status is told = absurd told
-ends_meant Reads word old new (NoOperation other) status is told = absurd told
-ends_meant Reads word old new (NotCalled other) status is told = absurd told
-ends_meant Reads word old new (NotServed other) status is told = absurd told
-ends_meant Reads word old new Socket status is told = absurd told
-ends_meant Reads word old new Unwritten status is told = absurd told
-
-spelling_statuses : (fault : SpellingFault) → (status_of_spelling fault ≡ 1) ⊎ (3 ≤ status_of_spelling fault)
-spelling_statuses spellings.BadIor = inl refl
-spelling_statuses spellings.BadCorbaloc = inl refl
-spelling_statuses spellings.NoMemory = inr (omega arith)
+ends_meant Reads word old new (Refused refusals.NoMemory) status is told =
+    ends_else Reads (Explanation word) old new status (omega arith)
+ends_meant Reads word old new fault status is told = absurd told
 
 -- there is no reference, or memory was wanted
-ends_described : (Reads : Passing) (word : List ℕ) (old new : Option (List ℕ)) (fault : Fault) (status : ℕ)
-    → status ≡ status_of fault
-    → IsDescriptionFault Reads word fault → IsEndOf Reads (Description word) status old new
-ends_described Reads word old new (Refused refusal) status is told =
-    ends_named Reads (Description word) old new (Refused refusal) status is (statuses refusal) told
-ends_described Reads word old new (Unsaid text) status is told = absurd told
-ends_described Reads word old new (NotSpelled fault) status is told =
-    ends_named Reads (Description word) old new (NotSpelled fault) status is (spelling_statuses fault) told
-ends_described Reads word old new NoMemory status is told =
-    ends_else Reads (Description word) old new status (omega arith)
-ends_described Reads word old new (NoRefusal other) status is told = absurd told
-ends_described Reads word old new (Words mistake) status is told = absurd told
-ends_described Reads word old new NotText status is told = absurd told
-ends_described Reads word old new (NotCompiled refusal) status is told = absurd told
-ends_described Reads word old new (Explained refusal view) status is told = absurd told
-ends_described Reads word old new (NotCapture other) status is told = absurd told
-ends_described Reads word old new (BadLine other) status is told = absurd told
-ends_described Reads word old new (CutShort other) status is told = absurd told
-ends_described Reads word old new (NoOperation other) status is told = absurd told
-ends_described Reads word old new (NotCalled other) status is told = absurd told
-ends_described Reads word old new (NotServed other) status is told = absurd told
-ends_described Reads word old new Socket status is told = absurd told
-ends_described Reads word old new Unwritten status is told = absurd told
+descriptions_are : (Reads : Passing) (word : List ℕ) (fault : Fault) → IsDescriptionFault Reads word fault
+    → IsOrdinary fault
+descriptions_are Reads word (Refused refusal) told = refusals_are refusal
+descriptions_are Reads word (NotSpelled fault) told = spellings_are fault
+descriptions_are Reads word fault told = absurd told
 
 -- there was a fault
 pub ends : (Reads : Passing) (ask : Ask) (old new : Option (List ℕ)) (fault : Fault) (status : ℕ)
     → status ≡ status_of fault → IsFaultOf Reads ask fault
     → IsEndOf Reads ask status old new
 ends Reads (Value value) old new fault status is told =
-    ends_named Reads (Value value) old new fault status is (named_statuses told.named fault told.is) told
+    ends_by Reads (Value value) old new fault status is (tables_are Reads value.table _ fault told) told
 ends Reads (Reference reference) old new fault status is told =
-    ends_named Reads (Reference reference) old new fault status is (named_statuses told.named fault told.is) told
+    ends_by Reads (Reference reference) old new fault status is (tables_are Reads reference.table _ fault told) told
 ends Reads (Explanation word) old new fault status is told = ends_meant Reads word old new fault status is told
-ends Reads (Description word) old new fault status is told = ends_described Reads word old new fault status is told
+ends Reads (Description word) old new fault status is told =
+    ends_by Reads (Description word) old new fault status is (descriptions_are Reads word fault told) told

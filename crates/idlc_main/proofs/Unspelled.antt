@@ -5,7 +5,7 @@ use Rattle.reference_listing.specs.Refusal.{RefusesSpelling}
 use Rattle.reference_listing.specs.declared.spelled_references.fault.SpellingFault.{SpellingFault}
 use Rattle.reference_listing.specs.declared.spelled_references.fault.SpellingFault.TheVariants.{BadIor, BadCorbaloc, NoMemory}
 use Rattle.command_tables.specs.Named.{Passing}
-use Rattle.command_files.specs.Values.{IsTextFor}
+use Rattle.command_tables.specs.Texts.{IsTextFor}
 use Rattle.idlc_main.specs.Descriptions.{IsNoReference}
 
 pub no_reference : (Reads : Passing) (word whole text : List ℕ) (fault : SpellingFault) → IsTextFor Reads word whole

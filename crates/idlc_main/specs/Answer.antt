@@ -5,21 +5,16 @@ use Rattle.std.specs.Io.KnownBytes.{Appends, Keeps}
 use Rattle.diagnostic_texts.specs.Named.{AreTexts, lines_below}
 use Rattle.broker_sockets.specs.Lines.{serving}
 use Rattle.command_tables.specs.Named.{Passing}
-use Rattle.command_files.specs.Answers.{IsReferenceFault, IsReferenceOf}
-use Rattle.command_files.specs.Values.{IsValueFault, IsValueLine}
-use Rattle.command_files.specs.declared.fault.NamedFault.{NamedFault}
+use Rattle.command_tables.specs.NoReference.{IsReferenceRefusal}
+use Rattle.command_tables.specs.References.{IsReferenceLine}
+use Rattle.command_tables.specs.declared.refusal.Refusal.TheVariants.{NoMemory}
 use Rattle.idlc_main.specs.declared.fault.Fault.{Fault}
-use Rattle.idlc_main.specs.declared.fault.Fault.TheVariants.{NoRefusal, NoMemory}
+use Rattle.idlc_main.specs.declared.fault.Fault.TheVariants.{NoRefusal, Refused}
 use Rattle.idlc_main.specs.Descriptions.{IsDescribed, IsDescriptionFault}
-use Rattle.idlc_main.specs.Fault.{IsOfNamed, status_of}
-use Rattle.command_words.specs.Ask.{Ask, Description, Explanation, Reference, ReferenceAsk, Value, ValueAsk}
+use Rattle.idlc_main.specs.Fault.{status_of}
+use Rattle.idlc_main.specs.Tables.{AnswersBy, HasTable, IsTableFault, RefusesBy}
+use Rattle.command_words.specs.Ask.{Ask, Description, Explanation, Reference, Value}
 use Rattle.idlc_main.specs.declared.told.Answer.{Answer}
-
--- the answer has a line's text, or the fault is that of the line
-abbrev pub IsLined : {A : Type 0} → (A → List ℕ) → Result A NamedFault → Result Answer Fault → Type 0
-IsLined text_of (Ok line) (Ok answer) = string_bytes answer.text ≡ text_of line
-IsLined text_of (Err named) (Err fault) = IsOfNamed named fault
-IsLined text_of line result = ⊥
 
 -- texts of the refusals that the word means, of one at least
 pub record AreExplained (word lines : List ℕ) : Type 0 where
@@ -33,16 +28,11 @@ Explains None lines = lines ≡ lines_below 256
 
 -- the line that answers; of a reference the lines behind the one in digits are as its listing prints them
 abbrev pub IsLine : Passing → Ask → List ℕ → Type 0
-IsLine Reads (Value ask) line = IsValueLine Reads ask line
-IsLine Reads (Reference ask) line = IsReferenceOf Reads ask line
+IsLine Reads (Value ask) line = HasTable Reads ask.table (AnswersBy Reads ask line)
+IsLine Reads (Reference ask) line =
+    HasTable Reads ask.table (λ table labels. IsReferenceLine table.model ask.parts line)
 IsLine Reads (Explanation word) lines = Explains word lines
 IsLine Reads (Description word) lines = IsDescribed Reads word lines
-
--- the fault that answers for a value or a reference, by what the table of a name tells
-pub record IsNamedFault (Tells : NamedFault → Type 0) (fault : Fault) : Type 0 where
-  pub named : NamedFault
-  pub tells : Tells named
-  pub is : IsOfNamed named fault
 
 -- the number or the name of no refusal
 abbrev pub IsStrangeWord : Option (List ℕ) → Type 0
@@ -51,12 +41,13 @@ IsStrangeWord (Some word) = AreTexts word 256 []
 
 abbrev pub IsExplanationFault : Option (List ℕ) → Fault → Type 0
 IsExplanationFault word (NoRefusal other) = (word ≡ Some other.now) × IsStrangeWord word
-IsExplanationFault word NoMemory = Unit {0}
+IsExplanationFault word (Refused NoMemory) = Unit {0}
 IsExplanationFault word fault = ⊥
 
 abbrev pub IsFaultOf : Passing → Ask → Fault → Type 0
-IsFaultOf Reads (Value ask) fault = IsNamedFault (IsValueFault Reads ask) fault
-IsFaultOf Reads (Reference ask) fault = IsNamedFault (IsReferenceFault Reads ask) fault
+IsFaultOf Reads (Value ask) fault = IsTableFault Reads ask.table (RefusesBy Reads ask) fault
+IsFaultOf Reads (Reference ask) fault =
+    IsTableFault Reads ask.table (λ refusal table labels. IsReferenceRefusal table.model ask.parts refusal) fault
 IsFaultOf Reads (Explanation word) fault = IsExplanationFault word fault
 IsFaultOf Reads (Description word) fault = IsDescriptionFault Reads word fault
 

@@ -4,13 +4,13 @@ use Rattle.std.specs.Str.{IsTrimAscii}
 use Rattle.reference_listing.specs.Described.{IsDescription}
 use Rattle.reference_listing.specs.Refusal.{SpellsNone}
 use Rattle.reference_listing.specs.declared.spelled_references.fault.SpellingFault.{SpellingFault}
-use Rattle.reference_listing.specs.declared.spelled_references.fault.SpellingFault.TheVariants.{BadIor, BadCorbaloc, NoMemory as WantsMemory}
+use Rattle.reference_listing.specs.declared.spelled_references.fault.SpellingFault.TheVariants.{BadIor, BadCorbaloc, NoMemory}
 use Rattle.command_tables.specs.Named.{Passing}
-use Rattle.command_files.specs.Values.{HasNoInput, IsTextFor}
-use Rattle.command_files.specs.declared.fault.NamedFault.TheVariants as named
+use Rattle.command_tables.specs.Texts.{HasNoInput, IsTextFor}
+use Rattle.command_tables.specs.declared.refusal.Refusal.TheVariants as refusals
 use Rattle.value_text.specs.declared.fault.Refusal.{Refusal as TextFault}
 use Rattle.idlc_main.specs.declared.fault.Fault.{Fault}
-use Rattle.idlc_main.specs.declared.fault.Fault.TheVariants.{Refused, NotSpelled, NoMemory}
+use Rattle.idlc_main.specs.declared.fault.Fault.TheVariants.{Refused, NotSpelled}
 
 -- the text that a word stands for, without the blanks around it
 pub record IsBareText (Reads : Passing) (word text : List ℕ) : Type 0 where
@@ -32,16 +32,17 @@ pub record IsUnspelled (Reads : Passing) (word : List ℕ) : Type 0 where
 
 -- its file is none of text
 abbrev pub IsNoText : Passing → List ℕ → Type 0
-IsNoText Reads word = (fault : TextFault) × HasNoInput Reads word (named.Unsaid fault)
+IsNoText Reads word = (fault : TextFault) × HasNoInput Reads word (refusals.Unsaid fault)
 
 abbrev pub IsNoReference : Passing → List ℕ → SpellingFault → Type 0
 IsNoReference Reads word BadIor = IsUnspelled Reads word ⊎ IsNoText Reads word
 IsNoReference Reads word BadCorbaloc = IsUnspelled Reads word
-IsNoReference Reads word WantsMemory = Unit {0}
+IsNoReference Reads word NoMemory = Unit {0}
 
 -- the word's file can't be read, or what the word stands for is no reference
 abbrev pub IsDescriptionFault : Passing → List ℕ → Fault → Type 0
-IsDescriptionFault Reads word (Refused refusal) = HasNoInput Reads word (named.Refused refusal)
+IsDescriptionFault Reads word (Refused (refusals.Unsaid fault)) = ⊥
+IsDescriptionFault Reads word (Refused refusals.NoMemory) = Unit {0}
+IsDescriptionFault Reads word (Refused refusal) = HasNoInput Reads word refusal
 IsDescriptionFault Reads word (NotSpelled fault) = IsNoReference Reads word fault
-IsDescriptionFault Reads word NoMemory = Unit {0}
 IsDescriptionFault Reads word fault = ⊥

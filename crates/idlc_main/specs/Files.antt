@@ -1,12 +1,14 @@
 -- What is read from files and written to them.
 use Rattle.std.specs.Prelude.{◌≡◌, ℕ, List}
 use Rattle.std.specs.String.{string_bytes}
+use Rattle.command_words.specs.declared.task.TableTask.TheVariants.{Check}
 use Rattle.command_words.specs.declared.task.Task.{Task}
-use Rattle.command_words.specs.declared.task.Task.TheVariants.{Check, Upgrade, Compile}
+use Rattle.command_words.specs.declared.task.Task.TheVariants.{Compile, Table, Upgrade}
 use Rattle.idl_compiler.specs.Files.{IsCompiledFile}
 use Rattle.idl_compiler.specs.declared.file.CompiledFile.{CompiledFile}
 use Rattle.command_tables.specs.Named.{Passing, IsUpgraded}
-use Rattle.command_files.specs.Answers.{IsCounted}
+use Rattle.position_checker.specs.Summary.{accepted}
+use Rattle.idlc_main.specs.Tables.{HasTable}
 
 -- an IDL file was read, its table was written to another file, and the line tells of it
 pub record IsCompiledTo (Reads Takes : Passing) (source output line : List ℕ) : Type 0 where
@@ -19,7 +21,7 @@ pub record IsCompiledTo (Reads Takes : Passing) (source output line : List ℕ) 
 
 -- what the commands for tables do, and the line that tells of it
 abbrev pub IsDone : Passing → Passing → Task → List ℕ → Type 0
-IsDone Reads Takes (Check table) line = IsCounted Reads table.now line
+IsDone Reads Takes (Table (Check name)) line = HasTable Reads name.now (λ table labels. line ≡ accepted table)
 IsDone Reads Takes (Upgrade table output) line = IsUpgraded Reads Takes table.now output.now line
 IsDone Reads Takes (Compile source output) line = IsCompiledTo Reads Takes source.now output.now line
 IsDone Reads Takes task line = Unit {0}

@@ -10,8 +10,9 @@ use crate::times::Times;
 use crate::told::named_fault;
 use call_commands::{CallRefusal, Ending, TextCall, Types, call_text};
 use call_sockets::Dialler;
-use command_files::{Loaded, NamedFault, load, source_in, text_in};
-use command_tables::WholeFiles;
+use command_files::load;
+use command_tables::{WholeFiles, text_of};
+use command_texts::Loaded;
 use command_words::CallTask;
 use giop::Giop;
 use giop::reply_bodies::SystemException;
@@ -43,35 +44,6 @@ pub struct Concluded {
     pub times: Option<Times>,
 }
 
-/// The text that a word stands for: itself, or that of a file.
-#[derive(Drop)]
-enum Text<'a> {
-    Own(&'a str),
-    OfFile(String),
-}
-
-impl Text<'_> {
-    fn as_str(&self) -> &str {
-        match self {
-            Text::Own(text) => text,
-            Text::OfFile(text) => text.as_str(),
-        }
-    }
-}
-
-fn text_of<'a, R: WholeFiles + AllocGlobal>(
-    rt: &R,
-    word: &'a str,
-) -> Result<Text<'a>, NamedFault<'a>> {
-    let Some(file) = source_in(word) else {
-        return Ok(Text::Own(word));
-    };
-    match text_in(rt, file) {
-        Ok(text) => Ok(Text::OfFile(text)),
-        Err(fault) => Err(fault),
-    }
-}
-
 /// What is asked for.
 #[derive(Clone, Copy)]
 struct Asked<'a, 't> {
@@ -98,7 +70,10 @@ fn once<'a, R: Net + Clock + AllocGlobal>(
     id: u32,
 ) -> Result<Ending, Fault<'a>> {
     let Calling { asked, types } = calling;
-    let ior = read_reference(types.giop.types(), rt.alloc(), asked.reference)?;
+    let ior = match read_reference(types.giop.types(), rt.alloc(), asked.reference) {
+        Ok(ior) => ior,
+        Err(fault) => return Err(Fault::NotSpelled(fault)),
+    };
     let ask = TextCall {
         operation: asked.task.operation,
         value: asked.value,
@@ -111,7 +86,7 @@ fn once<'a, R: Net + Clock + AllocGlobal>(
         Err(CallRefusal::NoOperation) => Err(Fault::NoOperation {
             word: asked.task.operation,
         }),
-        Err(refusal) => Err(Fault::from(refusal)),
+        Err(refusal) => Err(Fault::NotCalled(refusal)),
     }
 }
 
@@ -199,8 +174,8 @@ fn called_by<'a, R: WholeFiles + Net + Clock + Eprint + AllocGlobal>(
     loaded: &Loaded,
     listener: Listener,
 ) -> Result<Concluded, Fault<'a>> {
-    let reference = text_of(rt, task.reference)?;
-    let value = text_of(rt, task.value.unwrap_or(NO_ARGUMENTS))?;
+    let reference = text_of(rt, task.reference).map_err(Fault::Refused)?;
+    let value = text_of(rt, task.value.unwrap_or(NO_ARGUMENTS)).map_err(Fault::Refused)?;
     let asked = Asked {
         task,
         reference: reference.as_str().trim_ascii(),

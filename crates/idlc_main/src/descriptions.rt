@@ -3,35 +3,16 @@
 ghost use Rattle.std.specs.Prelude.{IfErr, IfOk};
 ghost use Rattle.std.specs.String.{string_bytes};
 ghost use Rattle.command_words.specs.Ask.{Description};
-ghost use Rattle.command_files.specs.Values.{IsTextFor};
+ghost use Rattle.command_tables.specs.Texts.{IsTextFor};
 ghost use Rattle.idlc_main.specs.Answer.{IsAnswer};
 ghost use Rattle.idlc_main.specs.Descriptions.{IsDescribed, IsDescriptionFault};
 ghost use Rattle.idlc_main.specs.Fault.{IsTold};
 
 use crate::fault::Fault;
 use crate::told::Answer;
-use command_files::{NamedFault, source_in, text_in};
-use command_tables::WholeFiles;
+use command_tables::{Refusal, WholeFiles, text_of};
 use giop_types::GiopTypes;
 use reference_listing::spelled_references::{SpellingFault, described_reference};
-
-/// The lines of the reference that a text spells, which a word stands for, by the routines of messages.
-fn described_by<'a, R: WholeFiles + AllocGlobal>(
-    rt: &R,
-    types: &GiopTypes,
-    word: &str,
-    text: &str,
-) -> Result<Answer, Fault<'a>>
-    requires { IsTextFor (R.reads rt.now) word.now text.now }
-    ensures described { IfOk result (λ answer.
-        IsDescribed (R.reads rt.now) word.now (string_bytes answer.text)) }
-    ensures refused { IfErr result (IsDescriptionFault (R.reads rt.now) word.now) }
-{
-    match described_reference(types, rt.alloc(), text.trim_ascii()) {
-        Ok(lines) => Ok(Answer::plain(lines)),
-        Err(fault) => Err(Fault::NotSpelled(fault)),
-    }
-}
 
 /// The lines of the reference that a text spells, which a word stands for.
 fn described_text<'a, R: WholeFiles + AllocGlobal>(
@@ -44,9 +25,10 @@ fn described_text<'a, R: WholeFiles + AllocGlobal>(
         IsDescribed (R.reads rt.now) word.now (string_bytes answer.text)) }
     ensures refused { IfErr result (IsDescriptionFault (R.reads rt.now) word.now) }
 {
-    match GiopTypes::new(rt.alloc()) {
-        Ok(types) => described_by(rt, &types, word, text),
-        Err(error) => Err(Fault::from(error)),
+    let types = GiopTypes::new(rt.alloc())?;
+    match described_reference(&types, rt.alloc(), text.trim_ascii()) {
+        Ok(lines) => Ok(Answer::plain(lines)),
+        Err(fault) => Err(Fault::NotSpelled(fault)),
     }
 }
 
@@ -58,13 +40,9 @@ pub fn described<'a, R: WholeFiles + AllocGlobal>(
     ensures answers { IsAnswer (R.reads rt.now) (Description word.now) result }
     ensures told { IfErr result IsTold }
 {
-    let Some(file) = source_in(word) else {
-        return described_text(rt, word, word);
-    };
-    match text_in(rt, file) {
+    match text_of(rt, word) {
         Ok(text) => described_text(rt, word, text.as_str()),
-        Err(NamedFault::Refused(refusal)) => Err(Fault::Refused(refusal)),
-        Err(NamedFault::Unsaid(_)) => Err(Fault::NotSpelled(SpellingFault::BadIor)),
-        Err(NamedFault::NotCompiled(_)) => unreachable!(),
+        Err(Refusal::Unsaid(_)) => Err(Fault::NotSpelled(SpellingFault::BadIor)),
+        Err(refusal) => Err(Fault::Refused(refusal)),
     }
 }

@@ -14,10 +14,10 @@ pub enum Listener {
 }
 
 impl Listener {
-    /// The same, where the words ask for what else is known.
-    pub fn asking(self) -> Listener {
+    /// The same, where words may ask for what else is known.
+    pub fn asking(self, explains: bool) -> Listener {
         match self {
-            Listener::Program => Listener::Asker,
+            Listener::Program if explains => Listener::Asker,
             heard => heard,
         }
     }

@@ -2,14 +2,12 @@
 //! prints references to objects and serves calls to them.
 #![tactic(auto)]
 
-ghost use Rattle.std.specs.Prelude.{◌≡◌, ◌≢◌, ◌≤◌, ◌<◌, ◌⊎◌, IsErrAnd, MatchResult, Some};
+ghost use Rattle.std.specs.Prelude.{◌≡◌, ◌≢◌, ◌≤◌, ◌<◌, ◌⊎◌};
 ghost use Rattle.std.specs.String.{string_bytes};
 ghost use Rattle.std.specs.Io.KnownBytes.{Appends};
 ghost use Rattle.idlc_main.specs.Fault.{status_of};
-ghost use Rattle.command_words.specs.Ask.{Ask, ask_of};
-ghost use Rattle.command_words.specs.Mistake.{IsOfWords};
+ghost use Rattle.command_words.specs.Ask.{Answer, Ask};
 ghost use Rattle.command_words.specs.Words.{AsksFor, IsMistaken, texts};
-ghost use Rattle.command_words.specs.declared.task.Task.{Task};
 ghost use Rattle.idlc_main.specs.Answer.{IsEndOf, MayServe};
 ghost use Rattle.idlc_main.specs.Called.{status_of_end};
 
@@ -31,14 +29,13 @@ use crate::known::known;
 use crate::listener::Listener;
 use crate::service::served;
 use crate::tasks::{done, table_in};
-use crate::told::Answer;
 use broker_sockets::Totals;
 use call_commands::ExceptionLine;
-use command_tables::WholeFiles;
-use command_words::{CallTask, DumpTask, Mistake, Said, explains, parse};
+use command_tables::{Refusal, WholeFiles};
+use command_words::{Said, parse};
 use diagnostic_views::Look;
 use giop_words::dump_commands::CaptureFiles;
-use std::alloc::{AllocError, Global};
+use std::alloc::AllocError;
 use std::env::VarError;
 use std::io::IsTerminal;
 use std::net::Net;
@@ -82,8 +79,8 @@ fn failed<R: WholeFiles + AllocGlobal, E: io::Write>(
     ensures { result ≡ status_of fault.now }
 {
     let _ = match fault {
-        Fault::Unwritten => Ok(()),
         Fault::Words(mistake) => write!(err, "{mistake}"),
+        fault if fault.is_of_output() => Ok(()),
         _ => writeln!(err, "idlc: {fault}"),
     };
     tell_known(rt, err, fault, table, listener);
@@ -92,7 +89,7 @@ fn failed<R: WholeFiles + AllocGlobal, E: io::Write>(
 
 /// Puts an answer's text on standard output, tells on standard error what else is told, and gives
 /// the status.
-fn say<O: io::Write, E: io::Write>(out: &mut O, err: &mut E, answer: &Answer) -> u8
+fn say<O: io::Write, E: io::Write>(out: &mut O, err: &mut E, answer: &told::Answer) -> u8
     ensures range { (result ≡ 0) ⊎ (result ≡ 3) }
     ensures said { result ≡ 0 → Appends (O.contents out.old) (O.contents out.new) (string_bytes answer.now.text) }
 {
@@ -140,57 +137,14 @@ fn conclude<O: io::Write, E: io::Write>(out: &mut O, err: &mut E, concluded: &Co
     status
 }
 
-/// Calls an object, tells what came of it, and gives the status.
-fn call<R: WholeFiles + Net + Clock + Eprint + AllocGlobal, O: io::Write, E: io::Write>(
-    rt: &R,
-    task: &CallTask<'_>,
-    out: &mut O,
-    err: &mut E,
-    listener: Listener,
-) -> u8
-    ensures range { result ≤ 6 }
-    ensures silent { result ≢ 0 → result < 3 → out.new ≡ out.old }
-    ensures memory { result ≡ 4 → MayServe (O.contents out.old) (O.contents out.new) }
+/// Tells a person how much was served, and gives the status.
+fn tell<E: io::Write>(err: &mut E, totals: &Totals, listener: Listener) -> u8
+    ensures { result ≡ 0 }
 {
-    match called(rt, task, listener) {
-        Ok(concluded) => conclude(out, err, &concluded),
-        Err(fault) => failed(rt, err, &fault, Some(task.table), listener),
-    }
-}
-
-/// Tells what a capture says, and gives the status.
-fn tell_capture<R: WholeFiles + CaptureFiles + Clock + AllocGlobal, O: io::Write, E: io::Write>(
-    rt: &R,
-    task: &DumpTask<'_>,
-    out: &mut O,
-    err: &mut E,
-    listener: Listener,
-) -> u8
-    ensures range { result ≤ 4 }
-    ensures silent { result ≢ 0 → result < 3 → out.new ≡ out.old }
-    ensures memory { result ≡ 4 → MayServe (O.contents out.old) (O.contents out.new) }
-{
-    match dumped(rt, task, out, listener) {
-        Ok(()) => DONE,
-        Err(fault) => failed(rt, err, &fault, Some(task.table), listener),
-    }
-}
-
-/// Tells a person how much was served.
-fn tell<E: io::Write>(err: &mut E, totals: &Totals, listener: Listener) {
     if listener.is_person() {
         let _ = writeln!(err, "idlc: served: {totals}");
     }
-}
-
-/// What the words say, but for calls: of those `run` has no more clauses than its status.
-fn said<'a>(alloc: Global, words: &'a [&'a str]) -> Result<Said<'a>, Mistake>
-    ensures asked { (ask : Ask) → AsksFor (texts words.now) ask → MatchResult result
-        (λ said. (task : Task) × (said ≡ Said.Do task) × (ask_of task ≡ Some ask))
-        (λ fault. fault ≡ Mistake.NoMemory) }
-    ensures mistaken { IsMistaken (texts words.now) → IsErrAnd result IsOfWords }
-{
-    parse(alloc, words)
+    DONE
 }
 
 /// Runs the program on words, of which the first is its name, and gives its status: 0 where it did
@@ -199,89 +153,49 @@ fn said<'a>(alloc: Global, words: &'a [&'a str]) -> Result<Said<'a>, Mistake>
 /// exception. Standard output has the answer or nothing, where calls are served the line that says so;
 /// a fault is told on standard error, with all that is known of it for a listener who wants that, and
 /// to a person too how much was served.
-fn run_for<
-    R: WholeFiles + CaptureFiles + Net + Clock + Eprint + AllocGlobal,
-    O: io::Write,
-    E: io::Write,
->(rt: &R, words: &[&str], out: &mut O, err: &mut E, listener: Listener) -> u8
-    ensures range { result ≤ 6 }
-    ensures asked { (ask : Ask) → AsksFor (texts words.now) ask
-        → IsEndOf (R.reads rt.now) ask result (O.contents out.old) (O.contents out.new) }
-    ensures kept { (ask : Ask) → AsksFor (texts words.now) ask → result ≢ 0 → result ≢ 3 → out.new ≡ out.old }
-    ensures mistaken { IsMistaken (texts words.now) → ((result ≡ 2) ⊎ (result ≡ 4)) × (out.new ≡ out.old) }
-    ensures silent { result ≢ 0 → result < 3 → out.new ≡ out.old }
-    ensures memory { result ≡ 4 → MayServe (O.contents out.old) (O.contents out.new) }
-{
-    match said(rt.alloc(), words) {
-        Ok(Said::Help(text)) => say(out, err, &Answer::plain(text)),
-        Ok(Said::Do(task)) => match done(rt, &task, listener) {
-            Ok(answer) => say(out, err, &answer),
-            Err(fault) => failed(rt, err, &fault, table_in(&task), listener),
-        },
-        Ok(Said::Serve(service)) => match served(rt, out, &service, listener) {
-            Ok(totals) => {
-                tell(err, &totals, listener);
-                DONE
-            }
-            Err(fault) => failed(rt, err, &fault, Some(service.table), listener),
-        },
-        Ok(Said::Call(task)) => call(rt, &task, out, err, listener),
-        Ok(Said::Dump(task)) => tell_capture(rt, &task, out, err, listener),
-        Err(mistake) => failed(rt, err, &Fault::from(mistake), None, listener),
-    }
-}
-
-/// The listener, who may ask for what else is known by words.
-fn listener_by<'a>(alloc: Global, words: &'a [&'a str], listener: Listener) -> Listener {
-    match explains(alloc, words) {
-        Ok(true) => listener.asking(),
-        Ok(false) | Err(_) => listener,
-    }
-}
-
-/// Runs the program as `run` does, for a listener.
-fn run_heard<
-    R: WholeFiles + CaptureFiles + Net + Clock + Eprint + AllocGlobal,
-    O: io::Write,
-    E: io::Write,
->(rt: &R, words: &[&str], out: &mut O, err: &mut E, listener: Listener) -> u8
-    ensures range { result ≤ 6 }
-    ensures asked { (ask : Ask) → AsksFor (texts words.now) ask
-        → IsEndOf (R.reads rt.now) ask result (O.contents out.old) (O.contents out.new) }
-    ensures kept { (ask : Ask) → AsksFor (texts words.now) ask → result ≢ 0 → result ≢ 3 → out.new ≡ out.old }
-    ensures mistaken { IsMistaken (texts words.now) → ((result ≡ 2) ⊎ (result ≡ 4)) × (out.new ≡ out.old) }
-    ensures silent { result ≢ 0 → result < 3 → out.new ≡ out.old }
-    ensures memory { result ≡ 4 → MayServe (O.contents out.old) (O.contents out.new) }
-{
-    let listener = listener_by(rt.alloc(), words, listener);
-    run_for(rt, words, out, err, listener)
-}
-
-/// Runs the program on words, of which the first is its name, and gives its status: 0 where it did
-/// what was asked for, 1 for refused input, 2 for usage, 3 for files and standard output, 4 for
-/// want of memory; where an object is called, 5 for an exception of its operation and 6 for a system
-/// exception. Standard output has the answer or nothing, where calls are served the line that says so;
-/// a fault is told on standard error.
 pub fn run<
     R: WholeFiles + CaptureFiles + Net + Clock + Eprint + AllocGlobal,
     O: io::Write,
     E: io::Write,
->(rt: &R, words: &[&str], out: &mut O, err: &mut E) -> u8
+>(rt: &R, words: &[&str], out: &mut O, err: &mut E, listener: Listener) -> u8
     ensures range { result ≤ 6 }
-    ensures asked { (ask : Ask) → AsksFor (texts words.now) ask
+    ensures asked { (ask : Ask) → AsksFor (texts words.now) (Answer ask)
         → IsEndOf (R.reads rt.now) ask result (O.contents out.old) (O.contents out.new) }
-    ensures kept { (ask : Ask) → AsksFor (texts words.now) ask → result ≢ 0 → result ≢ 3 → out.new ≡ out.old }
+    ensures kept { (ask : Ask) → AsksFor (texts words.now) (Answer ask) → result ≢ 0 → result ≢ 3 → out.new ≡ out.old }
     ensures mistaken { IsMistaken (texts words.now) → ((result ≡ 2) ⊎ (result ≡ 4)) × (out.new ≡ out.old) }
     ensures silent { result ≢ 0 → result < 3 → out.new ≡ out.old }
     ensures memory { result ≡ 4 → MayServe (O.contents out.old) (O.contents out.new) }
 {
-    run_heard(rt, words, out, err, Listener::Program)
+    let line = match parse(rt.alloc(), words) {
+        Ok(line) => line,
+        Err(mistake) => return failed(rt, err, &Fault::Words(mistake), None, listener),
+    };
+    let listener = listener.asking(line.explains);
+    match line.said {
+        Said::Help(text) => say(out, err, &told::Answer::plain(text)),
+        Said::Do(task) => match done(rt, &task, listener) {
+            Ok(answer) => say(out, err, &answer),
+            Err(fault) => failed(rt, err, &fault, table_in(&task), listener),
+        },
+        Said::Serve(service) => match served(rt, out, &service, listener) {
+            Ok(totals) => tell(err, &totals, listener),
+            Err(fault) => failed(rt, err, &fault, Some(service.table), listener),
+        },
+        Said::Call(task) => match called(rt, &task, listener) {
+            Ok(concluded) => conclude(out, err, &concluded),
+            Err(fault) => failed(rt, err, &fault, Some(task.table), listener),
+        },
+        Said::Dump(task) => match dumped(rt, &task, out, listener) {
+            Ok(()) => DONE,
+            Err(fault) => failed(rt, err, &fault, Some(task.table), listener),
+        },
+    }
 }
 
 /// Why the program's own words can't be had.
 fn wordless(error: io::Error) -> Fault<'static> {
     match error.kind() {
-        io::ErrorKind::OutOfMemory => Fault::NoMemory,
+        io::ErrorKind::OutOfMemory => Fault::Refused(Refusal::NoMemory),
         _ => Fault::NotText,
     }
 }
@@ -317,8 +231,14 @@ fn main(rt: HostRuntime) -> ExitCode {
         .map(|word| word.as_str())
         .collect(rt.alloc());
     let status = match texts {
-        Ok(texts) => run_heard(&rt, texts.as_slice(), &mut out, &mut err, listener),
-        Err(_) => failed(&rt, &mut err, &Fault::NoMemory, None, listener),
+        Ok(texts) => run(&rt, texts.as_slice(), &mut out, &mut err, listener),
+        Err(_) => failed(
+            &rt,
+            &mut err,
+            &Fault::Refused(Refusal::NoMemory),
+            None,
+            listener,
+        ),
     };
     ExitCode::from(status)
 }

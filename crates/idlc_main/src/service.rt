@@ -45,6 +45,6 @@ pub fn served<'a, R: WholeFiles + Net + Clock + Eprint + AllocGlobal, O: Write>(
     };
     match serve(rt, out, loaded.table, &options) {
         Ok(totals) => Ok(totals),
-        Err(fault) => Err(Fault::from(fault)),
+        Err(fault) => Err(Fault::NotServed(fault)),
     }
 }

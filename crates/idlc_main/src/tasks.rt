@@ -1,39 +1,83 @@
 //! What the commands do.
 
-ghost use Rattle.std.specs.Prelude.{◌≡◌, ℕ, IfErr, IfOk, List, OnOk, Option, None, Some, option_map};
-ghost use Rattle.std.specs.Borrow.{Bor};
+ghost use Rattle.std.specs.Prelude.{◌≡◌, IfErr, IfOk, OnOk, None, Some};
 ghost use Rattle.std.specs.String.{string_bytes};
-ghost use Rattle.command_words.specs.Ask.{Description, Explanation, Reference, Value, reference_ask_of, value_ask_of};
-ghost use Rattle.command_words.specs.declared.task.ValueTask.{ValueTask};
-ghost use Rattle.command_words.specs.declared.task.ReferenceTask.{ReferenceTask};
+ghost use Rattle.command_words.specs.Ask.{Ask, Explanation, ask_of, value_ask_of};
 ghost use Rattle.idl_compiler.specs.Files.{IsCompiledFile};
 ghost use Rattle.command_tables.specs.Named.{IsUpgraded};
-ghost use Rattle.idlc_main.specs.Answer.{IsAnswer, IsLined};
+ghost use Rattle.idlc_main.specs.Answer.{IsAnswer};
 ghost use Rattle.idlc_main.specs.Fault.{IsTold};
 ghost use Rattle.idlc_main.specs.Files.{IsCompiledTo, IsDone};
+ghost use Rattle.idlc_main.specs.Tables.{Answers, AnswersBy, IsRefusalBy, Refuses, RefusesBy};
 
 use crate::descriptions::described;
 use crate::fault::Fault;
 use crate::listener::Listener;
 use crate::told::{Answer, Notice, named_fault, source_fault};
-use command_files::{NamedFault, accepted_of, listing_of, reference_of, value_line};
-use command_tables::{WholeFiles, read_file, upgrade, write_file};
-use command_words::Task;
+use command_files::load;
+use command_tables::{
+    Refusal, WholeFiles, input_of, read_file, reference_line, upgrade, write_file,
+};
+use command_texts::{Loaded, shown, value_line};
+use command_words::{TableTask, Task, ValueTask};
 use diagnostic_texts::{explanations, headings};
 use idl_compiler::{CompiledFile, compile_file};
+use position_checker::accepted_line;
 
-/// The answer that is a line of the table of a name.
-fn lined<'a, R: WholeFiles + AllocGlobal>(
+/// The line of a value, whose word may have its text from a file.
+fn value<'a, R: WholeFiles + AllocGlobal>(
     rt: &R,
-    name: &str,
-    line: Result<String, NamedFault<'a>>,
-    listener: Listener,
-) -> Result<Answer, Fault<'a>>
-    ensures { IsLined string_bytes line.entry result }
+    asked: &ValueTask<'a>,
+    loaded: &Loaded,
+) -> Result<String, Refusal<'a>>
+    ensures line { IfOk result (λ line. AnswersBy (R.reads rt.now) (value_ask_of asked.now) (string_bytes line)
+        loaded.now.table loaded.now.names) }
+    ensures refused { IfErr result (λ refusal. RefusesBy (R.reads rt.now) (value_ask_of asked.now) refusal
+        loaded.now.table loaded.now.names) }
 {
-    match line {
+    let input = input_of(rt, asked.form, asked.request.way, asked.input)?;
+    value_line(
+        rt.alloc(),
+        loaded,
+        asked.form,
+        &asked.request,
+        input.as_str(),
+    )
+}
+
+/// The line that a table answers with that was loaded.
+fn line_by<'a, R: WholeFiles + AllocGlobal>(
+    rt: &R,
+    task: &TableTask<'a>,
+    loaded: &Loaded,
+) -> Result<String, Refusal<'a>>
+    ensures line { IfOk result (λ line. Answers (R.reads rt.now) task.now (string_bytes line)
+        loaded.now.table loaded.now.names) }
+    ensures refused { IfErr result (λ refusal. Refuses (R.reads rt.now) task.now refusal
+        loaded.now.table loaded.now.names) }
+{
+    match task {
+        TableTask::Value(asked) => value(rt, asked, loaded),
+        TableTask::Reference(asked) => reference_line(rt.alloc(), &loaded.table, &asked.wanted),
+        TableTask::Check { .. } => Ok(accepted_line(rt.alloc(), &loaded.table)?),
+        TableTask::Show { types, .. } => Ok(shown(rt.alloc(), loaded, *types)?),
+    }
+}
+
+/// What is answered by a table that was loaded.
+fn answered<'a, R: WholeFiles + AllocGlobal>(
+    rt: &R,
+    task: &TableTask<'a>,
+    loaded: &Loaded,
+) -> Result<Answer, Fault<'a>>
+    ensures line { IfOk result (λ answer. Answers (R.reads rt.now) task.now (string_bytes answer.text)
+        loaded.now.table loaded.now.names) }
+    ensures refused { IfErr result (IsRefusalBy (Refuses (R.reads rt.now) task.now) loaded.now.table loaded.now.names) }
+    ensures told { IfErr result IsTold }
+{
+    match line_by(rt, task, loaded) {
         Ok(line) => Ok(Answer::plain(line)),
-        Err(fault) => Err(named_fault(rt, name, fault, listener)),
+        Err(refusal) => Err(Fault::Refused(refusal)),
     }
 }
 
@@ -49,7 +93,7 @@ fn upgraded<'a, R: WholeFiles + AllocGlobal>(
 {
     match upgrade(rt, name, output) {
         Ok(line) => Ok(Answer::plain(line)),
-        Err(refusal) => Err(Fault::from(refusal)),
+        Err(refusal) => Err(Fault::Refused(refusal)),
     }
 }
 
@@ -79,12 +123,11 @@ fn put_compiled<'a, R: WholeFiles>(
     output: &'a str,
     source: &[u8],
     file: &CompiledFile,
-) -> Result<(), Fault<'a>>
+) -> Result<(), Refusal<'a>>
     requires { IsCompiledFile source.now file.now }
-    ensures taken { OnOk result (R.takes rt.now output.now file.now.octets.items) }
-    ensures told { IfErr result IsTold }
+    ensures { OnOk result (R.takes rt.now output.now file.now.octets.items) }
 {
-    Ok(write_file(rt, output, file.octets.as_slice())?)
+    write_file(rt, output, file.octets.as_slice())
 }
 
 /// The table of an IDL file, in another file; then how many routines it has.
@@ -100,7 +143,7 @@ fn compile<'a, R: WholeFiles + AllocGlobal>(
 {
     let source = match read_file(rt, name) {
         Ok(octets) => octets,
-        Err(refusal) => return Err(Fault::from(refusal)),
+        Err(refusal) => return Err(Fault::Refused(refusal)),
     };
     let file = match compile_file(rt.alloc(), source.as_slice()) {
         Ok(file) => file,
@@ -108,25 +151,24 @@ fn compile<'a, R: WholeFiles + AllocGlobal>(
             return Err(source_fault(rt.alloc(), name, source.as_slice(), refusal, listener));
         }
     };
-    put_compiled(rt, output, source.as_slice(), &file)?;
-    Ok(Answer {
-        text: file.line,
-        notice: if file.is_planned {
-            None
-        } else {
-            Some(Notice::PlanUnused)
-        },
-    })
+    match put_compiled(rt, output, source.as_slice(), &file) {
+        Ok(()) => Ok(Answer {
+            text: file.line,
+            notice: if file.is_planned {
+                None
+            } else {
+                Some(Notice::PlanUnused)
+            },
+        }),
+        Err(refusal) => Err(Fault::Refused(refusal)),
+    }
 }
 
 /// The name of the table that a task is about.
 pub fn table_in<'a>(task: &Task<'a>) -> Option<&'a str> {
     match task {
-        Task::Value(asked) => Some(asked.table),
-        Task::Reference(asked) => Some(asked.table),
-        Task::Check { table } | Task::Show { table, .. } | Task::Upgrade { table, .. } => {
-            Some(table)
-        }
+        Task::Table(task) => Some(task.table()),
+        Task::Upgrade { table, .. } => Some(table),
         Task::Compile { .. } | Task::Explain { .. } | Task::Describe { .. } => None,
     }
 }
@@ -138,26 +180,19 @@ pub fn done<'a, R: WholeFiles + AllocGlobal>(
     task: &Task<'a>,
     listener: Listener,
 ) -> Result<Answer, Fault<'a>>
-    ensures value { (asked : ValueTask) → task.now ≡ Task.Value asked
-        → IsAnswer (R.reads rt.now) (Value (value_ask_of asked)) result }
-    ensures reference { (asked : ReferenceTask) → task.now ≡ Task.Reference asked
-        → IsAnswer (R.reads rt.now) (Reference (reference_ask_of asked)) result }
-    ensures explanation { (word : Option (Bor (List ℕ))) → task.now ≡ Task.Explain word
-        → IsAnswer (R.reads rt.now) (Explanation (option_map (λ text. text.now) word)) result }
-    ensures description { (word : Bor (List ℕ)) → task.now ≡ Task.Describe word
-        → IsAnswer (R.reads rt.now) (Description word.now) result }
+    ensures answers { (ask : Ask) → ask_of task.now ≡ Some ask → IsAnswer (R.reads rt.now) ask result }
     ensures tables { IfOk result (λ answer.
         IsDone (R.reads rt.now) (R.takes rt.now) task.now (string_bytes answer.text)) }
     ensures told { IfErr result IsTold }
 {
     match task {
-        Task::Value(asked) => lined(rt, asked.table, value_line(rt, asked), listener),
-        Task::Reference(asked) => lined(rt, asked.table, reference_of(rt, asked), listener),
+        Task::Table(task) => match load(rt, task.table()) {
+            Ok(loaded) => answered(rt, task, &loaded),
+            Err(fault) => Err(named_fault(rt, task.table(), fault, listener)),
+        },
         Task::Explain { word: Some(word) } => explained(rt, word),
         Task::Explain { word: None } => listed(rt),
         Task::Describe { reference } => described(rt, reference),
-        Task::Check { table } => lined(rt, table, accepted_of(rt, table), listener),
-        Task::Show { table, types } => lined(rt, table, listing_of(rt, table, *types), listener),
         Task::Upgrade { table, output } => upgraded(rt, table, output),
         Task::Compile { source, output } => compile(rt, source, output, listener),
     }

@@ -1,7 +1,9 @@
 //! What a run tells when it did what was asked for, and of the fault of an IDL file.
 
 ghost use Rattle.std.specs.Prelude.{◌≡◌};
-ghost use Rattle.idlc_main.specs.Fault.{IsOfNamed, IsOfSource};
+ghost use Rattle.command_files.specs.Loaded.{IsNotLoaded};
+ghost use Rattle.idlc_main.specs.Fault.{IsOfSource, IsTold};
+ghost use Rattle.idlc_main.specs.Tables.{IsUnloaded};
 
 use crate::fault::Fault;
 use crate::listener::Listener;
@@ -59,7 +61,7 @@ pub fn source_fault<'a>(
     {
         return Fault::Explained { refusal, view };
     }
-    Fault::from(refusal)
+    Fault::NotCompiled(refusal)
 }
 
 /// The fault of an IDL file that is named as a table. For what else is known it is read once more.
@@ -72,25 +74,27 @@ fn source_fault_of<'a, R: WholeFiles + AllocGlobal>(
     ensures { IsOfSource refusal result }
 {
     if listener.look().is_none() {
-        return Fault::from(refusal);
+        return Fault::NotCompiled(refusal);
     }
     match read_file(rt, name) {
         Ok(source) => source_fault(rt.alloc(), name, source.as_slice(), refusal, listener),
-        Err(_) => Fault::from(refusal),
+        Err(_) => Fault::NotCompiled(refusal),
     }
 }
 
-/// The fault of a table that a word names.
+/// The fault of a name that has no table.
 pub fn named_fault<'a, R: WholeFiles + AllocGlobal>(
     rt: &R,
     name: &str,
     fault: NamedFault<'a>,
     listener: Listener,
 ) -> Fault<'a>
-    ensures { IsOfNamed fault.entry result }
+    requires { IsNotLoaded (R.reads rt.now) name.now fault.entry }
+    ensures is { IsUnloaded (R.reads rt.now) name.now result }
+    ensures told { IsTold result }
 {
     match fault {
+        NamedFault::Refused(refusal) => Fault::Refused(refusal),
         NamedFault::NotCompiled(refusal) => source_fault_of(rt, name, refusal, listener),
-        fault => Fault::from(fault),
     }
 }

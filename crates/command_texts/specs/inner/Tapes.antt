@@ -3,9 +3,8 @@ use Rattle.std.specs.Prelude.{◌≡◌, ℕ, List, [], ◌∷◌, ◌++◌}
 use Rattle.std.specs.Fmt.{decimal}
 use Rattle.json.specs.Print.{print}
 use Rattle.value_text.specs.Escaped.{escaped}
+use Rattle.command_tables.specs.declared.refusal.Refusal.{Refusal}
 use Rattle.command_tables.specs.declared.refusal.Refusal.TheVariants.{NoMemory, Refused}
-use Rattle.command_texts.specs.declared.refusal.TextRefusal.{TextRefusal}
-use Rattle.command_texts.specs.declared.refusal.TextRefusal.TheVariants.{Other}
 use Rattle.value_text.specs.Texts.{text_at}
 use Rattle.type_graph.specs.declared.node.Node.{Node}
 use Rattle.type_graph.specs.Value.{Tree, Fits, node_at, tape_of}
@@ -19,7 +18,7 @@ pub record IsTextOf (labels : List (List (List ℕ))) (graph : List Node) (node 
   pub line_is : line ≡ decimal taken ++ 32 ∷ escaped (print (text_at labels graph node value)) ++ 10 ∷ []
 
 -- want of memory, or a run was refused, and then the fact holds
-abbrev pub IsOfRun : TextRefusal → Type 0 → Type 0
-IsOfRun (Other NoMemory) fact = Unit {0}
-IsOfRun (Other (Refused fault)) fact = fact
+abbrev pub IsOfRun : Refusal → Type 0 → Type 0
+IsOfRun NoMemory fact = Unit {0}
+IsOfRun (Refused fault) fact = fact
 IsOfRun refusal fact = ⊥

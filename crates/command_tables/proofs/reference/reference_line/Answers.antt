@@ -2,7 +2,8 @@ use Rattle.std.proofs.Common.{List, sym, ap, ◌∙◌}
 use Rattle.table_file.specs.Table.{TableParts}
 use Rattle.type_model.specs.declared.signatures.Interface.{Interface}
 use Rattle.type_model.specs.ModelRules.{Parts}
-use Rattle.command_tables.specs.References.{reference_parts_of, interface_named}
+use Rattle.command_words.specs.Requests.{reference_parts_of}
+use Rattle.command_tables.specs.References.{interface_named}
 use Rattle.command_tables.proofs.References.{refused}
 use Rattle.command_tables.proofs.reference.reference_line.Goals as goal
 

@@ -1,5 +1,5 @@
 use Rattle.std.proofs.Common.{◌∙◌, List, ℕ, Ok, ap, sym, refl, string_bytes}
-use Rattle.command_tables.specs.Answer.{ask_of}
+use Rattle.command_words.specs.Requests.{ask_of}
 use Rattle.command_tables.proofs.AnswerLaws.{bad_digits, line_of, refusal_of}
 use Rattle.command_tables.proofs.values.marshal.Goals as goal
 

@@ -1,8 +1,8 @@
 use Rattle.std.proofs.Common.{rules, sym, subst, IfErr, string_bytes}
-use Rattle.command_tables.specs.Answer.{ask_of}
+use Rattle.command_words.specs.Requests.{ask_of}
 use Rattle.command_tables.specs.Lines.{HasNoTape}
-use Rattle.command_tables.specs.declared.values.Way.{Way}
-use Rattle.command_tables.specs.declared.values.Way.TheVariants.{Decode}
+use Rattle.command_words.specs.declared.requests.value.Way.{Way}
+use Rattle.command_words.specs.declared.requests.value.Way.TheVariants.{Decode}
 use Rattle.command_texts.specs.Lines.{IsRefusalAt}
 use Rattle.command_texts.proofs.Facts.{run_refused}
 use Rattle.command_texts.proofs.marshal.answer.Goals as goal

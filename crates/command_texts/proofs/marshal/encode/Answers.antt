@@ -2,7 +2,7 @@ use Rattle.std.proofs.Common.{rules, ◌≡◌, subst, List}
 use Rattle.std.specs.Bool.{OnFalse}
 use Rattle.std.proofs.lemmas.Result.{err_from_is_err_and}
 use Rattle.type_graph.specs.declared.node.Node.{Node}
-use Rattle.command_tables.specs.Answer.{ask_of}
+use Rattle.command_words.specs.Requests.{ask_of}
 use Rattle.value_text.specs.Refusal.{wants_memory}
 use Rattle.command_texts.specs.Lines.{SaysNone}
 use Rattle.value_text.proofs.Named.{in_lent}

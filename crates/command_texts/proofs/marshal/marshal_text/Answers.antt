@@ -1,5 +1,5 @@
 use Rattle.std.proofs.Common.{refl, string_bytes}
-use Rattle.command_tables.specs.Answer.{ask_of}
+use Rattle.command_words.specs.Requests.{ask_of}
 use Rattle.command_texts.proofs.Facts.{line_of, refusal_of}
 use Rattle.command_texts.proofs.marshal.marshal_text.Goals as goal
 

@@ -1,14 +1,18 @@
-use Rattle.std.proofs.Common.{rules, ap, refl, sym, subst, ◌≡◌, ◌∙◌, ◌⊎◌, inl, inr, IsErrAnd}
+use Rattle.std.proofs.Common.{rules, ap, refl, sym, subst, ◌≡◌, ◌∙◌, ◌⊎◌, inl, inr, IsErrAnd, Some}
 use Rattle.clap.specs.Words.{app_of, fault_of, is_simple, is_simple_and_free, subcommand_of, takes}
 use Rattle.clap.specs.declared.builder.value_parser.ValueParser.TheVariants.{Names}
+use Rattle.command_words.specs.Ask.{asked_of}
 use Rattle.command_words.specs.Commands.{program_app}
 use Rattle.command_words.specs.Mistake.{IsOfWords}
 use Rattle.command_words.specs.Words.{AreMistakes, AreUnclear, TakesOrders, texts}
-use Rattle.command_words.proofs.Mistakes.{no_mistakes, refused_words}
+use Rattle.command_words.specs.declared.mistake.Mistake.{Mistake}
+use Rattle.command_words.specs.declared.mistake.Mistake.TheVariants.{NoMemory}
+use Rattle.command_words.specs.declared.task.Line.{Line}
+use Rattle.command_words.proofs.Mistakes.{no_mistakes, refused_words, told_or_refused}
 use Rattle.command_words.proofs.line.read.Goals as goal
 
 pub returns-in-Err-clause-asked : goal.returns-in-Err-clause-asked
-returns-in-Err-clause-asked c ask asks =
+returns-in-Err-clause-asked c asked asks =
     let orders : TakesOrders (Names c.as_slice.result) =
     record { names = c.as_slice.result; is_of_names = refl; are_orders = search rules } in
     let app_is : app_of c.in_ok-program.field-0 ≡ program_app (Names c.as_slice.result) = c.in_ok-program.ensures in
@@ -16,6 +20,16 @@ returns-in-Err-clause-asked c ask asks =
     let none = c.help_or_fault.ensures.memory
     (c.in-Err.ensures.passes (ap (λ app. takes app (texts c.args.words.now)) app_is ∙ read.taken)) in
     rw none refl
+
+pub returns-in-Err-clause-explains : goal.returns-in-Err-clause-explains
+returns-in-Err-clause-explains c flag asks =
+    let orders : TakesOrders (Names c.as_slice.result) =
+    record { names = c.as_slice.result; is_of_names = refl; are_orders = search rules } in
+    let app_is : app_of c.in_ok-program.field-0 ≡ program_app (Names c.as_slice.result) = c.in_ok-program.ensures in
+    let read = asks (Names c.as_slice.result) orders in
+    let none = c.help_or_fault.ensures.memory
+    (c.in-Err.ensures.passes (ap (λ app. takes app (texts c.args.words.now)) app_is ∙ read.taken)) in
+    rw none tt
 
 pub returns-in-Err-clause-mistaken : goal.returns-in-Err-clause-mistaken
 returns-in-Err-clause-mistaken c mistaken =
@@ -39,47 +53,30 @@ returns-in-Err-clause-mistaken c mistaken =
           (c.in-Err.ensures.passes (ap (λ app. takes app (texts c.args.words.now)) app_is ∙ unclear.taken)) in
           rw none tt
 
-pub returns-in-Some-clause-asked : goal.returns-in-Some-clause-asked
-returns-in-Some-clause-asked c ask asks =
+pub returns-in-Ok-clause-asked : goal.returns-in-Ok-clause-asked
+returns-in-Ok-clause-asked c asked asks =
     let orders : TakesOrders (Names c.as_slice.result) =
     record { names = c.as_slice.result; is_of_names = refl; are_orders = search rules } in
     let app_is : app_of c.in_ok-program.field-0 ≡ program_app (Names c.as_slice.result) = c.in_ok-program.ensures in
     let read = asks (Names c.as_slice.result) orders in
     let command = (c.in-Ok.ensures.matches (ap is_simple app_is)).1
     ∙ ap (λ app. subcommand_of app (texts c.args.words.now)) app_is ∙ read.command in
-    (c.in-Some.task, refl, c.in-Some.ensures.asked ask read.rows command read.tells)
+    told_or_refused c.line_in.result (λ (line : Line). asked_of line.said ≡ Some asked)
+    (λ (fault : Mistake). fault ≡ NoMemory)
+    (c.line_in.ensures.asked asked read.rows command read.tells)
 
-pub returns-in-Some-clause-mistaken : goal.returns-in-Some-clause-mistaken
-returns-in-Some-clause-mistaken c mistaken =
-    let orders : TakesOrders (Names c.as_slice.result) =
-    record { names = c.as_slice.result; is_of_names = refl; are_orders = search rules } in
-    by_cause (mistaken (Names c.as_slice.result) orders) where
-      app_is : app_of c.in_ok-program.field-0 ≡ program_app (Names c.as_slice.result)
-      app_is = c.in_ok-program.ensures
-
-      by_cause : AreMistakes (fault_of (program_app (Names c.as_slice.result)) (texts c.args.words.now))
-          ⊎ AreUnclear (program_app (Names c.as_slice.result)) (texts c.args.words.now) → ⊥
-      by_cause (inl wrong) =
-          let mistakes : AreMistakes (fault_of (app_of c.in_ok-program.field-0) (texts c.args.words.now)) =
-          subst (λ app. AreMistakes (fault_of app (texts c.args.words.now))) (sym app_is) wrong in
-          no_mistakes _ mistakes (c.in-Ok.ensures.kinds (ap is_simple_and_free app_is))
-      by_cause (inr are) =
-          let command = (c.in-Ok.ensures.matches (ap is_simple app_is)).1
-          ∙ ap (λ app. subcommand_of app (texts c.args.words.now)) app_is ∙ are.command in
-          let none = c.in-Some.ensures.unclear are.rows command are.unclear in absurd cc
-
-pub returns-clause-asked : goal.returns-clause-asked
-returns-clause-asked c ask asks =
+pub returns-in-Ok-clause-explains : goal.returns-in-Ok-clause-explains
+returns-in-Ok-clause-explains c flag asks =
     let orders : TakesOrders (Names c.as_slice.result) =
     record { names = c.as_slice.result; is_of_names = refl; are_orders = search rules } in
     let app_is : app_of c.in_ok-program.field-0 ≡ program_app (Names c.as_slice.result) = c.in_ok-program.ensures in
     let read = asks (Names c.as_slice.result) orders in
     let command = (c.in-Ok.ensures.matches (ap is_simple app_is)).1
     ∙ ap (λ app. subcommand_of app (texts c.args.words.now)) app_is ∙ read.command in
-    absurd (c.in-None.ensures.asked ask read.rows command read.tells)
+    c.line_in.ensures.explains read.name read.rows flag command read.tells
 
-pub returns-clause-mistaken : goal.returns-clause-mistaken
-returns-clause-mistaken c mistaken =
+pub returns-in-Ok-clause-mistaken : goal.returns-in-Ok-clause-mistaken
+returns-in-Ok-clause-mistaken c mistaken =
     let orders : TakesOrders (Names c.as_slice.result) =
     record { names = c.as_slice.result; is_of_names = refl; are_orders = search rules } in
     by_cause (mistaken (Names c.as_slice.result) orders) where
@@ -88,7 +85,7 @@ returns-clause-mistaken c mistaken =
 
       by_cause : AreMistakes (fault_of (program_app (Names c.as_slice.result)) (texts c.args.words.now))
           ⊎ AreUnclear (program_app (Names c.as_slice.result)) (texts c.args.words.now)
-          → IsErrAnd c.dumped_or_called.result IsOfWords
+          → IsErrAnd c.line_in.result IsOfWords
       by_cause (inl wrong) =
           let mistakes : AreMistakes (fault_of (app_of c.in_ok-program.field-0) (texts c.args.words.now)) =
           subst (λ app. AreMistakes (fault_of app (texts c.args.words.now))) (sym app_is) wrong in
@@ -96,66 +93,4 @@ returns-clause-mistaken c mistaken =
       by_cause (inr are) =
           let command = (c.in-Ok.ensures.matches (ap is_simple app_is)).1
           ∙ ap (λ app. subcommand_of app (texts c.args.words.now)) app_is ∙ are.command in
-          let told = c.dumped_or_called.ensures.unclear are.rows command in rw told tt
-
-pub returns-in-Err-clause-called : goal.returns-in-Err-clause-called
-returns-in-Err-clause-called c ask asks =
-    let orders : TakesOrders (Names c.as_slice.result) =
-    record { names = c.as_slice.result; is_of_names = refl; are_orders = search rules } in
-    let app_is : app_of c.in_ok-program.field-0 ≡ program_app (Names c.as_slice.result) = c.in_ok-program.ensures in
-    let read = asks (Names c.as_slice.result) orders in
-    let none = c.help_or_fault.ensures.memory
-    (c.in-Err.ensures.passes (ap (λ app. takes app (texts c.args.words.now)) app_is ∙ read.taken)) in
-    rw none refl
-
-pub returns-in-Some-clause-called : goal.returns-in-Some-clause-called
-returns-in-Some-clause-called c ask asks =
-    let orders : TakesOrders (Names c.as_slice.result) =
-    record { names = c.as_slice.result; is_of_names = refl; are_orders = search rules } in
-    let app_is : app_of c.in_ok-program.field-0 ≡ program_app (Names c.as_slice.result) = c.in_ok-program.ensures in
-    let read = asks (Names c.as_slice.result) orders in
-    let command = (c.in-Ok.ensures.matches (ap is_simple app_is)).1
-    ∙ ap (λ app. subcommand_of app (texts c.args.words.now)) app_is ∙ read.command in
-    let none = c.in-Some.ensures.called read.rows command in absurd cc
-
-pub returns-clause-called : goal.returns-clause-called
-returns-clause-called c ask asks =
-    let orders : TakesOrders (Names c.as_slice.result) =
-    record { names = c.as_slice.result; is_of_names = refl; are_orders = search rules } in
-    let app_is : app_of c.in_ok-program.field-0 ≡ program_app (Names c.as_slice.result) = c.in_ok-program.ensures in
-    let read = asks (Names c.as_slice.result) orders in
-    let command = (c.in-Ok.ensures.matches (ap is_simple app_is)).1
-    ∙ ap (λ app. subcommand_of app (texts c.args.words.now)) app_is ∙ read.command in
-    let told = c.dumped_or_called.ensures.called ask read.rows command read.tells in
-    rw told.1 (told.0, refl, told.2)
-
-pub returns-in-Err-clause-dumped : goal.returns-in-Err-clause-dumped
-returns-in-Err-clause-dumped c ask asks =
-    let orders : TakesOrders (Names c.as_slice.result) =
-    record { names = c.as_slice.result; is_of_names = refl; are_orders = search rules } in
-    let app_is : app_of c.in_ok-program.field-0 ≡ program_app (Names c.as_slice.result) = c.in_ok-program.ensures in
-    let read = asks (Names c.as_slice.result) orders in
-    let none = c.help_or_fault.ensures.memory
-    (c.in-Err.ensures.passes (ap (λ app. takes app (texts c.args.words.now)) app_is ∙ read.taken)) in
-    rw none refl
-
-pub returns-in-Some-clause-dumped : goal.returns-in-Some-clause-dumped
-returns-in-Some-clause-dumped c ask asks =
-    let orders : TakesOrders (Names c.as_slice.result) =
-    record { names = c.as_slice.result; is_of_names = refl; are_orders = search rules } in
-    let app_is : app_of c.in_ok-program.field-0 ≡ program_app (Names c.as_slice.result) = c.in_ok-program.ensures in
-    let read = asks (Names c.as_slice.result) orders in
-    let command = (c.in-Ok.ensures.matches (ap is_simple app_is)).1
-    ∙ ap (λ app. subcommand_of app (texts c.args.words.now)) app_is ∙ read.command in
-    let none = c.in-Some.ensures.dumped read.rows command in absurd cc
-
-pub returns-clause-dumped : goal.returns-clause-dumped
-returns-clause-dumped c ask asks =
-    let orders : TakesOrders (Names c.as_slice.result) =
-    record { names = c.as_slice.result; is_of_names = refl; are_orders = search rules } in
-    let app_is : app_of c.in_ok-program.field-0 ≡ program_app (Names c.as_slice.result) = c.in_ok-program.ensures in
-    let read = asks (Names c.as_slice.result) orders in
-    let command = (c.in-Ok.ensures.matches (ap is_simple app_is)).1
-    ∙ ap (λ app. subcommand_of app (texts c.args.words.now)) app_is ∙ read.command in
-    let told = c.dumped_or_called.ensures.dumped ask read.rows command read.tells in
-    rw told.1 (told.0, refl, told.2)
+          let told = c.line_in.ensures.unclear are.rows command are.unclear in rw told tt

@@ -3,12 +3,12 @@ use Rattle.clap.specs.Words.{found_of}
 use Rattle.command_words.proofs.References.{asked}
 use Rattle.command_words.proofs.matches.reference.Goals as goal
 
-pub returns-in-Some : goal.returns-in-Some
-returns-in-Some c ask tells =
-    let e = c.in-Some.ensures in
-    asked (found_of c.args.words.now) ask tells (Some c.in-Some.asked) e.whole e.table e.host e.port e.object
+pub returns-in_err-asked : goal.returns-in_err-asked
+returns-in_err-asked c ask tells =
+    let e = c.in_err-asked.ensures in
+    absurd (asked (found_of c.args.words.now) ask tells None e.whole e.table e.host e.port e.object)
 
-pub returns-in-None : goal.returns-in-None
-returns-in-None c ask tells =
-    let e = c.in-None.ensures in
-    asked (found_of c.args.words.now) ask tells None e.whole e.table e.host e.port e.object
+pub returns : goal.returns
+returns c ask tells =
+    let e = c.in_ok-asked.ensures in
+    asked (found_of c.args.words.now) ask tells (Some c.in_ok-asked.asked) e.whole e.table e.host e.port e.object

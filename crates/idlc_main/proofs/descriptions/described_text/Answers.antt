@@ -1,5 +1,5 @@
 use Rattle.idlc_main.proofs.Unspelled.{no_reference}
-use Rattle.idlc_main.proofs.descriptions.described_by.Goals as goal
+use Rattle.idlc_main.proofs.descriptions.described_text.Goals as goal
 
 pub returns-in-Err-clause-refused : goal.returns-in-Err-clause-refused
 returns-in-Err-clause-refused g c =
