@@ -11,7 +11,7 @@ ghost use Rattle.broker_loop.specs.inner.Going.{GoesOn, IsUnderWay, WereAsked, p
 ghost use Rattle.broker_loop.specs.inner.Turns.{IsHandedBack};
 
 use crate::listener::{End, PolledListener};
-use crate::slot::{Course, Slot, serve};
+use crate::slot::{Course, Slot, take_slot_turn};
 use iiop_broker::{Broker, Event, Servant};
 
 /// Lets go of a connection.
@@ -43,7 +43,7 @@ pub(crate) fn let_go<S: Servant, L: PolledListener>(
 }
 
 /// Serves the connection at a place as far as it goes at once, and lets go of it where it is over.
-fn serve_at<S: Servant, L: PolledListener>(
+fn sweep_slot<S: Servant, L: PolledListener>(
     broker: &mut Broker<S>,
     listener: &mut L,
     slots: &mut Vec<Slot<L::Connection>>,
@@ -75,7 +75,7 @@ fn serve_at<S: Servant, L: PolledListener>(
     ensures same { broker.new.served ≡ broker.old.served }
     ensures as_long { length buffer.new ≡ length buffer.old }
 {
-    let course = serve(broker, listener, &mut slots[at], buffer, idle);
+    let course = take_slot_turn(broker, listener, &mut slots[at], buffer, idle);
     if let Course::Over(end) = course {
         let slot = slots.remove(at);
         let_go(broker, listener, slot, end);
@@ -115,7 +115,7 @@ pub(crate) fn sweep<S: Servant, L: PolledListener>(
     let mut moved = false;
     let mut at = 0;
     while at < slots.len() {
-        match serve_at(broker, listener, slots, at, buffer, idle) {
+        match sweep_slot(broker, listener, slots, at, buffer, idle) {
             Course::Moved => {
                 moved = true;
                 at += 1;

@@ -16,7 +16,7 @@ use crate::memory::keep_memory;
 use crate::object::broker_of;
 use crate::options::ServeOptions;
 use crate::polled_loopback::PolledLoopback;
-use crate::serving_many::serve_many_at;
+use crate::serving_many::serve_table_at_once;
 use crate::totals::Totals;
 use iiop_broker::{Broker, Servant};
 use position_checker::Accepted;
@@ -59,7 +59,7 @@ fn serve_by<'a, S: Servant, L: BlockingListener, W: Write>(
 /// `BadObject` and `NoInterface` before anything is listened on. `Socket` where the port can't be
 /// listened on or a connection can't be accepted, `Unwritten` where the line can't be printed.
 /// Want of memory.
-pub fn serve_at<'a, L: BlockingListener, W: Write>(
+pub fn serve_table<'a, L: BlockingListener, W: Write>(
     alloc: Global,
     listener: &mut L,
     out: &mut W,
@@ -86,7 +86,7 @@ pub fn serve_at<'a, L: BlockingListener, W: Write>(
 /// The same on TCP, to connections to 127.0.0.1, which tell nothing of what they carry.
 ///
 /// # Errors
-/// As `serve_at`.
+/// As `serve_table`.
 fn serve_in_turn<'a, R: Net + Clock + Eprint + AllocGlobal, W: Write>(
     rt: &R,
     out: &mut W,
@@ -103,14 +103,14 @@ fn serve_in_turn<'a, R: Net + Clock + Eprint + AllocGlobal, W: Write>(
     ensures silent { IfErr result (λ fault. IsOfObject fault → out.new ≡ out.old) }
 {
     let mut loopback = Loopback::new(rt);
-    serve_at(rt.alloc(), &mut loopback, out, table, options)?;
+    serve_table(rt.alloc(), &mut loopback, out, table, options)?;
     Ok(loopback.totals().of(options.connections))
 }
 
 /// At most so many of them at the same time.
 ///
 /// # Errors
-/// As `serve_many_at`.
+/// As `serve_table_at_once`.
 fn serve_many<'a, R: Net + Clock + Eprint + AllocGlobal, W: Write>(
     rt: &R,
     out: &mut W,
@@ -127,7 +127,7 @@ fn serve_many<'a, R: Net + Clock + Eprint + AllocGlobal, W: Write>(
     ensures silent { IfErr result (λ fault. IsOfObject fault → out.new ≡ out.old) }
 {
     let mut loopback = PolledLoopback::new(rt, rt.alloc())?;
-    serve_many_at(rt.alloc(), &mut loopback, out, table, options, at_once)?;
+    serve_table_at_once(rt.alloc(), &mut loopback, out, table, options, at_once)?;
     Ok(loopback.finish().of(options.connections))
 }
 
@@ -146,7 +146,7 @@ fn places_in(options: &ServeOptions<'_>) -> Option<u8>
 /// after the other, or at the same time.
 ///
 /// # Errors
-/// As `serve_at`.
+/// As `serve_table`.
 pub fn serve<'a, R: Net + Clock + Eprint + AllocGlobal, W: Write>(
     rt: &R,
     out: &mut W,

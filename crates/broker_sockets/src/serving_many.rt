@@ -71,7 +71,7 @@ fn serve_by<'a, S: Servant, L: PolledListener, W: Write>(
 /// `BadObject` and `NoInterface` before anything is listened on. `Socket` where the port can't be
 /// listened on or a connection can't be accepted, `Unwritten` where the line can't be printed.
 /// Want of memory before anything is served.
-pub fn serve_many_at<'a, L: PolledListener, W: Write>(
+pub fn serve_table_at_once<'a, L: PolledListener, W: Write>(
     alloc: Global,
     listener: &mut L,
     out: &mut W,

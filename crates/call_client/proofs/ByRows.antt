@@ -3,7 +3,7 @@ use Rattle.std.proofs.Common.{◌≡◌, ℕ, suc, ◌+◌, ◌<◌, List, [], �
 use Rattle.std.specs.declared.vec.Vec.{Vec}
 use Rattle.std.specs.declared.alloc.Global.{Global}
 use Rattle.iiop_broker.specs.Outcomes.{Ends}
-use Rattle.call_client.specs.declared.answer.Answer.{Answer}
+use Rattle.call_client.specs.declared.answer.ReplyBody.{ReplyBody}
 use Rattle.call_client.specs.declared.fault.CallFault.{CallFault}
 use Rattle.call_client.specs.declared.fault.CallFault.TheVariants.{NeedsAddressingMode, NotARequest, NotReached}
 use Rattle.giop_messages.specs.declared.fault.GiopFault.TheVariants.{NoMemory}
@@ -25,7 +25,7 @@ module _ (Told Mid Told' : List Ends → Type 0) (ps : List ListedProfile) (i : 
     (vain : IsUnreached Told Mid (all_missed (rows_of (take i ps))) lines mid) where
   pub talked : (ask : Asking) (naming : Naming) (place : ℕ) → place ≡ i → (profile : IiopProfile)
       → p ≡ listed.Iiop profile
-      → (result : Result (Option Answer) CallFault)
+      → (result : Result (Option ReplyBody) CallFault)
       → IsTalkTo Mid Told' ask (IsTarget naming place (iiop_of profile)) (iiop_of profile) mid result lines'
       → IsTalkBy Told Told' ask naming (rows_of ps) lines result lines'
   talked ask naming place place_is profile iiop result to = record {

@@ -11,7 +11,7 @@ use Rattle.giop_messages.specs.Heard.{Breaks, Ends, Heard, Refuses, Replies, Wai
 use Rattle.giop_messages.specs.ReplyStreamsRoom.{wanted}
 use Rattle.giop_messages.proofs.Hearing.{in_pieces}
 use Rattle.giop_messages.proofs.Waiting.{SaysNothing, still_waits, waited_before}
-use Rattle.call_client.specs.declared.answer.Answer.{Answer}
+use Rattle.call_client.specs.declared.answer.ReplyBody.{ReplyBody}
 use Rattle.call_client.specs.declared.fault.CallFault.{CallFault}
 use Rattle.call_client.specs.declared.fault.CallFault.TheVariants as faults
 use Rattle.call_client.specs.Answers.{IsAnswered, IsUnreadable, answer_of}
@@ -194,7 +194,7 @@ unreadable id before after piece message count r none =
 
 -- what the reply that came says
 pub outcome_in : (id reads : ℕ) (before after : Option (List ℕ)) (piece message : List ℕ) (count : ℕ)
-    (result : Result Answer CallFault) (failure : Bool) → ReadOn id before piece count (Replies message) after
+    (result : Result ReplyBody CallFault) (failure : Bool) → ReadOn id before piece count (Replies message) after
     → IsAnswerIn id message result → IsOutcome id reads before result after failure
 outcome_in id reads before after piece message count (Ok answer) failure r is =
     answered id before after piece message count (answer_of answer) r is.0 is.1

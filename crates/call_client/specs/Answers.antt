@@ -2,10 +2,10 @@
 use Rattle.std.specs.Prelude.{◌≡◌, ℕ, List}
 use Rattle.giop_messages.specs.Messages.{Answered, Answers, Says}
 use Rattle.giop_messages.specs.Heard.{Replies, heard}
-use Rattle.call_client.specs.declared.answer.Answer.{Answer}
+use Rattle.call_client.specs.declared.answer.ReplyBody.{ReplyBody}
 
 -- what an answer says
-abbrev pub answer_of : Answer → Answered
+abbrev pub answer_of : ReplyBody → Answered
 answer_of answer = record {
   id = answer.id;
   status = answer.status;

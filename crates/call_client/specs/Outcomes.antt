@@ -2,7 +2,7 @@
 use Rattle.std.specs.Prelude.{◌≡◌, ◌<◌, ◌≤◌, ℕ, Bool, true, List, ◌++◌, length, Option, Result, Ok, Err}
 use Rattle.iiop_broker.specs.Ends.{Gives, IsEmpty}
 use Rattle.giop_messages.specs.Heard.{Breaks, Ends, Refuses, Waits, heard}
-use Rattle.call_client.specs.declared.answer.Answer.{Answer}
+use Rattle.call_client.specs.declared.answer.ReplyBody.{ReplyBody}
 use Rattle.call_client.specs.declared.fault.CallFault.{CallFault}
 use Rattle.call_client.specs.declared.fault.CallFault.TheVariants as faults
 use Rattle.call_client.specs.Answers.{IsAnswered, IsUnreadable, answer_of}
@@ -30,7 +30,7 @@ pub record IsGivenUp (id : ℕ) (cause : Type 0) (octets : List ℕ) : Type 0 wh
   pub cause_is : cause
 
 -- By what the reader tells before and after: the octets that are left, and whether a read has failed.
-abbrev pub IsOutcome : ℕ → ℕ → Option (List ℕ) → Result Answer CallFault → Option (List ℕ) → Bool → Type 0
+abbrev pub IsOutcome : ℕ → ℕ → Option (List ℕ) → Result ReplyBody CallFault → Option (List ℕ) → Bool → Type 0
 IsOutcome id reads before (Ok answer) after failure =
     AreRead before (IsBrought id (λ octets. IsAnswered id octets (answer_of answer))) after
 IsOutcome id reads before (Err (faults.BadMessage fault)) after failure =

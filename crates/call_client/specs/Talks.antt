@@ -5,7 +5,7 @@ use Rattle.giop.specs.Addresses.{target_tree}
 use Rattle.giop_messages.specs.Written.{Given}
 use Rattle.iiop_broker.specs.Outcomes.{Ends}
 use Rattle.call_client.specs.Calls.{IsCalled}
-use Rattle.call_client.specs.declared.answer.Answer.{Answer}
+use Rattle.call_client.specs.declared.answer.ReplyBody.{ReplyBody}
 use Rattle.call_client.specs.declared.request.Request.{Request}
 use Rattle.call_client.specs.declared.fault.CallFault.{CallFault}
 use Rattle.call_client.specs.declared.fault.CallFault.TheVariants.{NeedsAddressingMode, NotARequest, NotReached}
@@ -30,7 +30,7 @@ asking request body reads = record { request = request; body = body; reads = rea
 -- behind the lines so far and those that were missed a connection was made to the host and the port, the call was made
 -- on it, and it was handed back
 pub record IsTalk (Told Told' : Telling) (ask : Asking) (host : List ℕ) (port : ℕ) (lines : List Line)
-    (result : Result (Option Answer) CallFault) (lines' : List Line) : Type 0 where
+    (result : Result (Option ReplyBody) CallFault) (lines' : List Line) : Type 0 where
   pub from : Ends
   pub to : Ends
   pub lines_are : lines' ≡ lines ++ made host port from ∷ []
@@ -50,7 +50,7 @@ IsBefore Told Told' (NotARequest NoMemory) all some lines lines' = IsUnreached T
 IsBefore Told Told' fault all some lines lines' = ⊥
 
 -- By what is told of the lines and of the connections that were handed back, before and after.
-abbrev pub IsCalledAt : Telling → Telling → Asking → List ℕ → ℕ → List Line → Result (Option Answer) CallFault
+abbrev pub IsCalledAt : Telling → Telling → Asking → List ℕ → ℕ → List Line → Result (Option ReplyBody) CallFault
     → List Line → Type 0
 IsCalledAt Told Told' ask host port lines (Ok answer) lines' = IsTalk Told Told' ask host port lines (Ok answer) lines'
 IsCalledAt Told Told' ask host port lines (Err fault) lines' =
@@ -69,7 +69,7 @@ pub record IsTo (Target : Tree → Type 0) (request other : Request) : Type 0 wh
 
 -- the call was made at the host and the port of a profile, with a target of which this holds
 pub record IsTalkTo (Told Told' : Telling) (ask : Asking) (Target : Tree → Type 0) (iiop : Iiop) (lines : List Line)
-    (result : Result (Option Answer) CallFault) (lines' : List Line) : Type 0 where
+    (result : Result (Option ReplyBody) CallFault) (lines' : List Line) : Type 0 where
   pub request : Request
   pub to_object : IsTo Target ask.request request
   pub talk : IsTalk Told Told' (asking request ask.body ask.reads) iiop.body.host iiop.body.port lines result lines'
@@ -82,7 +82,7 @@ pub record IsUnnamed (Told Told' : Telling) (Target : Tree → Type 0) (vain : L
   pub unreached : IsUnreached Told Told' vain lines lines'
 
 abbrev pub IsCalledTo : Telling → Telling → Asking → (Tree → Type 0) → Iiop → List Line
-    → Result (Option Answer) CallFault → List Line → Type 0
+    → Result (Option ReplyBody) CallFault → List Line → Type 0
 IsCalledTo Told Told' ask Target iiop lines (Ok answer) lines' =
     IsTalkTo Told Told' ask Target iiop lines (Ok answer) lines'
 IsCalledTo Told Told' ask Target iiop lines (Err fault) lines' =
@@ -97,7 +97,7 @@ misses fault = false
 
 -- it was so by the first profile of IIOP whose host and port could be reached, whose object the target names
 pub record IsTalkBy (Told Told' : Telling) (ask : Asking) (naming : Naming) (rows : List Row) (lines : List Line)
-    (result : Result (Option Answer) CallFault) (lines' : List Line) : Type 0 where
+    (result : Result (Option ReplyBody) CallFault) (lines' : List Line) : Type 0 where
   pub before : List Row
   pub iiop : Iiop
   pub behind : List Row
@@ -120,7 +120,7 @@ pub record IsGivenUp (Told Told' : Telling) (rows : List Row) (fault : CallFault
   pub some : List Line
   pub before : IsBefore Told Told' fault (all_missed rows) some lines lines'
 
-abbrev pub IsCalledBy : Telling → Telling → Asking → Naming → List Row → List Line → Result (Option Answer) CallFault
+abbrev pub IsCalledBy : Telling → Telling → Asking → Naming → List Row → List Line → Result (Option ReplyBody) CallFault
     → List Line → Type 0
 IsCalledBy Told Told' ask naming rows lines (Ok answer) lines' =
     IsTalkBy Told Told' ask naming rows lines (Ok answer) lines'

@@ -11,7 +11,7 @@ use type_graph::Order;
 
 /// The answer to a request.
 #[derive(Drop)]
-pub struct Answer {
+pub struct ReplyBody {
     /// The number of the request.
     pub id: u32,
     pub status: ReplyStatus,
@@ -44,7 +44,7 @@ pub(crate) fn read_answer(
     alloc: Global,
     id: u32,
     reply: &SentReply,
-) -> Result<Option<Answer>, AllocError>
+) -> Result<Option<ReplyBody>, AllocError>
     ensures found { IfOk result (λ o. IfSome o (λ answer. Says reply.now (Answers (answer_of answer)))) }
     ensures id { IfOk result (λ o. IfSome o (λ answer. answer.id ≡ id)) }
     ensures refused { IfOk result (λ o. IfNone o ((answered : Answered)
@@ -62,7 +62,7 @@ pub(crate) fn read_answer(
     if said.id != id {
         return Ok(None);
     }
-    Ok(Some(Answer {
+    Ok(Some(ReplyBody {
         id: said.id,
         status: said.status,
         order: said.order,

@@ -3,7 +3,7 @@
 ghost use Rattle.call_client.specs.Outcomes.{IsOutcome};
 ghost use Rattle.call_client.specs.inner.Replies.{IsAnswerIn};
 
-use crate::answer::{Answer, read_answer};
+use crate::answer::{ReplyBody, read_answer};
 use crate::fault::CallFault;
 use giop::Giop;
 use giop_messages::reply_streams::{Heard, ReplyStream, SentReply};
@@ -14,7 +14,7 @@ use std::alloc::Global;
 const BUFFER_LEN: usize = 4096;
 
 /// The answer that a reply says.
-fn answer_in(giop: &Giop, alloc: Global, id: u32, reply: &SentReply) -> Result<Answer, CallFault>
+fn answer_in(giop: &Giop, alloc: Global, id: u32, reply: &SentReply) -> Result<ReplyBody, CallFault>
     ensures { IsAnswerIn id reply.now result }
 {
     match read_answer(giop, alloc, id, reply) {
@@ -38,7 +38,7 @@ pub fn await_reply<I: Input>(
     id: u32,
     reader: &mut I,
     reads: u64,
-) -> Result<Answer, CallFault>
+) -> Result<ReplyBody, CallFault>
     ensures { IsOutcome id reads (I.left reader.old) result (I.left reader.new) (I.failure reader.new) }
 {
     let mut buffer = [0u8; BUFFER_LEN];

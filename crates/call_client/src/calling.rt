@@ -6,7 +6,7 @@ ghost use Rattle.giop.specs.Made.{given_by};
 ghost use Rattle.iiop_broker.specs.Outcomes.{ends};
 ghost use Rattle.call_client.specs.Calls.{IsCalled};
 
-use crate::answer::Answer;
+use crate::answer::ReplyBody;
 use crate::awaiting::await_reply;
 use crate::fault::CallFault;
 use crate::request::{Request, send_request};
@@ -27,7 +27,7 @@ pub fn call<I: Input, O: Output>(
     request: &Request<'_>,
     body: Option<Body<'_>>,
     reads: u64,
-) -> Result<Option<Answer>, CallFault>
+) -> Result<Option<ReplyBody>, CallFault>
     requires { ForSome body (λ b. IsNamed b.0.now.model.names b.1) }
     ensures { IsCalled request.now (given_by body.entry) reads
         (ends (I.left reader.old) (O.written writer.old) (I.failure reader.old) (O.failure writer.old)) result

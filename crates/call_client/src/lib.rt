@@ -10,7 +10,7 @@ pub mod laws;
 pub mod object_calls;
 mod request;
 
-pub use answer::Answer;
+pub use answer::ReplyBody;
 pub use awaiting::await_reply;
 pub use calling::call;
 pub use fault::{CallFault, Cause};

@@ -8,7 +8,7 @@ use Rattle.call_client.specs.Talks.{Telling}
 use Rattle.call_commands.specs.Calls.{IsCarriedOut, IsEnding, IsLastOutcome, IsSaid, IsTextCalled}
 use Rattle.call_commands.specs.Choices.{Choice, chosen}
 use Rattle.call_commands.specs.declared.ask.TextCall.{TextCall}
-use Rattle.call_commands.specs.declared.ask.Types.{Types}
+use Rattle.call_commands.specs.declared.ask.CallTypes.{CallTypes}
 use Rattle.call_commands.specs.declared.ending.Ending.{Ending}
 use Rattle.call_commands.specs.declared.fault.CallRefusal.{CallRefusal}
 use Rattle.call_commands.specs.declared.fault.CallRefusal.TheVariants.{NoOperation, Unsaid, Unanswered, Readdressed}
@@ -34,7 +34,7 @@ module _ (Told Told' : Telling) (choice : Choice) (ask : TextCall) (reference : 
     ended outcome (Err refusal) is said = absurd is
 
     -- the operation is the one that the word names
-    pub text_called : (types : Types) (result : Result Ending CallRefusal)
+    pub text_called : (types : CallTypes) (result : Result Ending CallRefusal)
         → chosen types.table.now.model types.names.now reference.type_id ask.operation.now ≡ Some choice
         → IsCarriedOut Told Told' choice ask reference lines result lines'
         → IsTextCalled Told Told' types ask reference lines result lines'

@@ -1,7 +1,7 @@
 -- What one call says, whatever was handed back before.
 use Rattle.std.proofs.Common.{List, [], ◌∷◌, ◌++◌, refl, sym, ap, subst, append-nil, inl, inr, Option, Some, None, Result, Ok, Err}
 use Rattle.iiop_broker.specs.Outcomes.{Ends}
-use Rattle.call_client.specs.declared.answer.Answer.{Answer}
+use Rattle.call_client.specs.declared.answer.ReplyBody.{ReplyBody}
 use Rattle.call_client.specs.declared.fault.CallFault.{CallFault}
 use Rattle.call_client.specs.declared.fault.CallFault.TheVariants.{NotARequest, NotReached}
 use Rattle.giop_messages.specs.declared.fault.GiopFault.TheVariants.{NoMemory}
@@ -17,14 +17,14 @@ use Rattle.call_commands.specs.Hops.{InForm, IsCalledOnce, IsHop, IsOnce, IsOutc
 
 -- what was handed back in a call, and the call as if nothing had been before
 record IsFreed (Told Told' : List Ends → Type 0) (ask : Asking) (by_name : Naming) (rows : List Row)
-    (lines : List Line) (result : Result (Option Answer) CallFault) (lines' : List Line) : Type 0 where
+    (lines : List Line) (result : Result (Option ReplyBody) CallFault) (lines' : List Line) : Type 0 where
   tos : List Ends
   gone : (all : List Ends) → Told all → Told' (all ++ tos)
   called : IsCalledBy (just []) (just tos) ask by_name rows lines result lines'
 
 module _ (Told Told' : List Ends → Type 0) (ask : Asking) (by_name : Naming) (rows : List Row)
     (lines lines' : List Line) where
-  talked : (result : Result (Option Answer) CallFault) (by : IsTalkBy Told Told' ask by_name rows lines result lines')
+  talked : (result : Result (Option ReplyBody) CallFault) (by : IsTalkBy Told Told' ask by_name rows lines result lines')
       → IsTalkBy (just []) (just (by.talk.talk.to ∷ [])) ask by_name rows lines result lines'
   talked result by = record {
     before = by.before;
@@ -67,7 +67,7 @@ module _ (Told Told' : List Ends → Type 0) (ask : Asking) (by_name : Naming) (
   }
   given_up fault up = absurd up.before
 
-  freed : (result : Result (Option Answer) CallFault) → IsCalledBy Told Told' ask by_name rows lines result lines'
+  freed : (result : Result (Option ReplyBody) CallFault) → IsCalledBy Told Told' ask by_name rows lines result lines'
       → IsFreed Told Told' ask by_name rows lines result lines'
   freed (Ok answer) by =
       record { tos = by.talk.talk.to ∷ []; gone = by.talk.talk.gone; called = talked (Ok answer) by }
@@ -121,7 +121,7 @@ sent Told Told' ask called reference rows lines lines' are by =
 -- there was one
 pub answered : (Told Told' : List Ends → Type 0) (ask : InForm) (called : Called) (reference : Reference)
     (rows : List Row)
-    (lines lines' : List Line) (answer : Answer) (result : Result (Option Outcome) CallFault)
+    (lines lines' : List Line) (answer : ReplyBody) (result : Result (Option Outcome) CallFault)
     → AreRows reference.profiles rows
     → IsCalledBy Told Told' ask.asking (naming ask.form reference) rows lines (Ok (Some answer)) lines'
     → IsOutcomeIn called (answer_of answer) result

@@ -15,7 +15,7 @@ use Rattle.call_client.specs.Talks.{Telling, asking}
 use Rattle.call_commands.specs.Followed.{IsFollowed}
 use Rattle.call_commands.specs.Choices.{Choice, chosen}
 use Rattle.call_commands.specs.declared.ask.TextCall.{TextCall}
-use Rattle.call_commands.specs.declared.ask.Types.{Types}
+use Rattle.call_commands.specs.declared.ask.CallTypes.{CallTypes}
 use Rattle.call_commands.specs.declared.ending.Ending.{Ending}
 use Rattle.call_commands.specs.declared.ending.Ending.TheVariants.{Returned, Raised, Failed, Sent}
 use Rattle.call_commands.specs.declared.fault.CallRefusal.{CallRefusal}
@@ -79,18 +79,18 @@ IsCarriedOut Told Told' choice ask reference lines (Err Readdressed) lines' =
     × IsSaid Told Told' choice ask reference lines (Ok (Some (outcomes.Readdressed disposition))) lines'
 
 -- the operation that the word names was called
-pub record IsCalledBy (Told Told' : Telling) (types : Types) (ask : TextCall) (reference : Reference)
+pub record IsCalledBy (Told Told' : Telling) (types : CallTypes) (ask : TextCall) (reference : Reference)
     (lines : List Line) (result : Result Ending CallRefusal) (lines' : List Line) : Type 0 where
   pub choice : Choice
   pub chosen_is : chosen types.table.now.model types.names.now reference.type_id ask.operation.now ≡ Some choice
   pub is : IsCarriedOut Told Told' choice ask reference lines result lines'
 
 -- the word names none, and nothing was dialled
-pub record IsNameless (types : Types) (ask : TextCall) (reference : Reference) (lines lines' : List Line) : Type 0 where
+pub record IsNameless (types : CallTypes) (ask : TextCall) (reference : Reference) (lines lines' : List Line) : Type 0 where
   pub none : chosen types.table.now.model types.names.now reference.type_id ask.operation.now ≡ None
   pub lines_are : lines' ≡ lines
 
-abbrev pub IsTextCalled : Telling → Telling → Types → TextCall → Reference → List Line → Result Ending CallRefusal
+abbrev pub IsTextCalled : Telling → Telling → CallTypes → TextCall → Reference → List Line → Result Ending CallRefusal
     → List Line → Type 0
 IsTextCalled Told Told' types ask reference lines (Err NoOperation) lines' = IsNameless types ask reference lines lines'
 IsTextCalled Told Told' types ask reference lines result lines' =

@@ -2,7 +2,7 @@
 use Rattle.std.specs.Prelude.{◌≡◌, ◌⊎◌, List, [], ◌++◌, Option, Some, None, Result, Ok, Err}
 use Rattle.giop_messages.specs.Messages.{Answered}
 use Rattle.iiop_broker.specs.Outcomes.{Ends}
-use Rattle.call_client.specs.declared.answer.Answer.{Answer}
+use Rattle.call_client.specs.declared.answer.ReplyBody.{ReplyBody}
 use Rattle.call_client.specs.declared.fault.CallFault.{CallFault}
 use Rattle.call_client.specs.declared.fault.CallFault.TheVariants.{NoMemory, NotARequest, OtherBody}
 use Rattle.giop_messages.specs.declared.fault.GiopFault.TheVariants as messages
@@ -30,7 +30,7 @@ just tos = λ all. all ≡ tos
 
 -- the call by the profiles of the reference; behind these lines came those, and these connections were handed back
 pub record IsHop (ask : InForm) (reference : Reference) (lines : List Line)
-    (result : Result (Option Answer) CallFault) (lines' : List Line) (tos : List Ends) : Type 0 where
+    (result : Result (Option ReplyBody) CallFault) (lines' : List Line) (tos : List Ends) : Type 0 where
   pub rows : List Row
   pub rows_are : AreRows reference.profiles rows
   pub called : IsCalledBy (just []) (just tos) ask.asking (naming ask.form reference) rows lines result lines'
@@ -46,7 +46,7 @@ IsOutcomeIn called answered (Err fault) = ⊥
 -- it was answered, and the answer says this
 pub record IsAnswered (ask : InForm) (called : Called) (reference : Reference) (lines : List Line)
     (result : Result (Option Outcome) CallFault) (lines' : List Line) (tos : List Ends) : Type 0 where
-  pub answer : Answer
+  pub answer : ReplyBody
   pub hop : IsHop ask reference lines (Ok (Some answer)) lines' tos
   pub outcome_is : IsOutcomeIn called (answer_of answer) result
 

@@ -8,7 +8,7 @@ use type_model::part_names::PartNames;
 /// The types by which calls are made: those of GIOP, and those of a table with the names of their
 /// parts.
 #[derive(Clone, Copy)]
-pub struct Types<'t> {
+pub struct CallTypes<'t> {
     pub giop: &'t Giop,
     pub table: &'t Accepted,
     pub names: &'t PartNames,

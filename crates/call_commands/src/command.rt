@@ -3,7 +3,7 @@
 ghost use Rattle.reference_texts.specs.References.{reference_of};
 ghost use Rattle.call_commands.specs.Calls.{IsTextCalled};
 
-use crate::ask::{TextCall, Types};
+use crate::ask::{TextCall, CallTypes};
 use crate::choice::choose;
 use crate::ending::Ending;
 use crate::fault::CallRefusal;
@@ -20,7 +20,7 @@ use type_model::part_names::PartNames;
 /// `call_object` of followed_calls says; `Readdressed` where its server asks for a form of address that
 /// there isn't, or again for one after the object was named as it asked.
 pub fn call_text<D: Dial>(
-    types: &Types<'_>,
+    types: &CallTypes<'_>,
     alloc: Global,
     dial: &mut D,
     ior: Ior,

@@ -7,7 +7,7 @@ ghost use Rattle.call_commands.specs.Calls.{IsCarriedOut, IsEnding, IsLastOutcom
 ghost use Rattle.command_texts.specs.Bodies.{IsTapeOfText};
 ghost use Rattle.call_commands.specs.Choices.{choice_of};
 
-use crate::ask::{TextCall, Types};
+use crate::ask::{TextCall, CallTypes};
 use crate::choice::Choice;
 use crate::ending::Ending;
 use crate::fault::CallRefusal;
@@ -44,7 +44,7 @@ fn ending_of(outcome: Outcome) -> Result<Ending, CallRefusal>
 
 /// Calls an operation with the arguments of a tape.
 fn said<D: Dial>(
-    types: &Types<'_>,
+    types: &CallTypes<'_>,
     alloc: Global,
     dial: &mut D,
     ior: Ior,
@@ -80,7 +80,7 @@ fn said<D: Dial>(
 
 /// Calls an operation with the arguments that a text says.
 pub(crate) fn called<D: Dial>(
-    types: &Types<'_>,
+    types: &CallTypes<'_>,
     alloc: Global,
     dial: &mut D,
     ior: Ior,

@@ -18,8 +18,8 @@ abbrev pub past_blanks : List ℕ → List ℕ
 past_blanks s = drop (position_or_len (λ c. not (is_blank c)) s) s
 
 -- what stands behind the octet, which isn't 0 and with which the list has to begin
-abbrev pub behind : ℕ → List ℕ → Option (List ℕ)
-behind octet s = if slice_index s 0 == octet then Some (drop 1 s) else None
+abbrev pub after_octet : ℕ → List ℕ → Option (List ℕ)
+after_octet octet s = if slice_index s 0 == octet then Some (drop 1 s) else None
 
 -- what stands behind the word line, which may be left out
 abbrev pub past_word : List ℕ → List ℕ
@@ -34,7 +34,7 @@ number_of digits = fold with_digit 0 digits
 
 -- the file's name ends before the first quote
 abbrev pub file_in : List ℕ → Option (List ℕ)
-file_in s = option_map (λ rest. before_first (λ c. c == 34) rest) (behind 34 s)
+file_in s = option_map (λ rest. before_first (λ c. c == 34) rest) (after_octet 34 s)
 
 -- a number, and what the rest says of the file
 abbrev pub numbered : List ℕ → Option MarkerParts
@@ -46,4 +46,4 @@ numbered s =
 
 -- the marker that a line is
 unfoldable pub marker_of : List ℕ → Option MarkerParts
-marker_of line = option_and_then (λ rest. numbered (past_word (past_blanks rest))) (behind 35 (past_blanks line))
+marker_of line = option_and_then (λ rest. numbered (past_word (past_blanks rest))) (after_octet 35 (past_blanks line))

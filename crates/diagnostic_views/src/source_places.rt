@@ -5,4 +5,4 @@ mod marker;
 mod places;
 
 pub use marker::{Marker, read_marker};
-pub use places::{Place, line_start, place_at};
+pub use places::{SourceLine, line_start, place_at};

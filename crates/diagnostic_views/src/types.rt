@@ -5,7 +5,7 @@ use crate::grammar::octet_at;
 use crate::words::text_at;
 use idl_compiler::CompileFault;
 use idl_lexer::Token;
-use model_builder::{Answer, LabelWorth, TypeFault, TypeKind};
+use model_builder::{FirstAnswer, LabelWorth, TypeFault, TypeKind};
 use std::alloc::{AllocError, Global};
 use type_graph::{GraphLimit, Values};
 
@@ -72,17 +72,17 @@ fn label_sentence(
 fn oneway_sentence(
     alloc: Global,
     tokens: &[Token<'_>],
-    answer: Answer,
+    answer: FirstAnswer,
 ) -> Result<String, AllocError> {
     match answer {
-        Answer::Result => String::from_str(alloc, "a oneway operation can't have a result"),
-        Answer::Parameter(at) => {
+        FirstAnswer::Result => String::from_str(alloc, "a oneway operation can't have a result"),
+        FirstAnswer::Parameter(at) => {
             let name = text_at(tokens, at.token);
             format!(in alloc;
                 "a oneway operation can't have the parameter '{name}', which isn't in"
             )
         }
-        Answer::Exceptions => String::from_str(alloc, "a oneway operation can't raise exceptions"),
+        FirstAnswer::Exceptions => String::from_str(alloc, "a oneway operation can't raise exceptions"),
     }
 }
 

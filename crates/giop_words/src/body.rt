@@ -8,7 +8,7 @@ ghost use Rattle.command_texts.specs.Bodies.{HasNoValue, IsTextOfBody};
 ghost use Rattle.command_texts.specs.Outcomes.{HasNoOutcome, called};
 ghost use Rattle.giop_words.specs.Bodies.{IsTextOfReply, Shows};
 
-use crate::frames::{Frames, Types};
+use crate::frames::{Frames, MessageTypes};
 use crate::quoted::Quoted;
 use command_texts::call_texts::{Outcome, read_outcome};
 use giop::reply_bodies::SystemException;
@@ -19,7 +19,7 @@ use std::alloc::{AllocError, Global};
 /// The text of the arguments with which the body of a request begins; none where it begins with none of
 /// the operation. Such a body is read as that of a reply whose result has the same types.
 pub(crate) fn request_text(
-    types: &Types<'_>,
+    types: &MessageTypes<'_>,
     alloc: Global,
     frames: &Frames<'_>,
     request: &Request<'_>,
@@ -66,7 +66,7 @@ fn exception_text(alloc: Global, exception: &SystemException) -> Result<String, 
 }
 
 /// Where an object is, as the text of the reference.
-fn forward_text(types: &Types<'_>, alloc: Global, ior: &Ior) -> Result<String, AllocError> {
+fn forward_text(types: &MessageTypes<'_>, alloc: Global, ior: &Ior) -> Result<String, AllocError> {
     match ior_to_text(types.giop.types(), alloc, ior) {
         Ok(text) => Ok(text),
         Err(ReferenceFault::NoMemory) => Err(AllocError),
@@ -75,7 +75,7 @@ fn forward_text(types: &Types<'_>, alloc: Global, ior: &Ior) -> Result<String, A
 }
 
 /// What becomes of a call, as text.
-fn outcome_text(types: &Types<'_>, alloc: Global, outcome: Outcome) -> Result<String, AllocError>
+fn outcome_text(types: &MessageTypes<'_>, alloc: Global, outcome: Outcome) -> Result<String, AllocError>
     ensures { IfOk result (λ text. Shows outcome (string_bytes text)) }
 {
     match outcome {
@@ -88,7 +88,7 @@ fn outcome_text(types: &Types<'_>, alloc: Global, outcome: Outcome) -> Result<St
 
 /// The text of what a reply says of a call; none where its body isn't what its status says.
 pub(crate) fn reply_text(
-    types: &Types<'_>,
+    types: &MessageTypes<'_>,
     alloc: Global,
     frames: &Frames<'_>,
     reply: &Reply<'_>,

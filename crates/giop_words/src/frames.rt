@@ -13,7 +13,7 @@ use type_model::part_names::PartNames;
 /// What messages are told by: the types of GIOP, a table with the names of the parts of its types, and the
 /// names of none.
 #[derive(Clone, Copy)]
-pub struct Types<'t> {
+pub struct MessageTypes<'t> {
     pub giop: &'t Giop,
     pub table: &'t Accepted,
     pub names: &'t PartNames,
@@ -30,7 +30,7 @@ pub(crate) struct Frames<'t> {
     pub(crate) exceptions: &'t [u32],
 }
 
-impl<'t> Types<'t> {
+impl<'t> MessageTypes<'t> {
     fn of_table(&self, number: usize) -> Option<Frames<'t>>
         ensures request { IfSome result (λ f. IsNamed f.table.now.model.names f.request) }
         ensures reply { IfSome result (λ f. IsNamed f.table.now.model.names f.reply) }

@@ -12,5 +12,5 @@ mod said;
 mod unread;
 mod words;
 
-pub use frames::Types;
+pub use frames::MessageTypes;
 pub use words::TableWords;

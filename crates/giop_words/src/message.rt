@@ -5,7 +5,7 @@ ghost use Rattle.type_model.specs.Names.{IsNamed};
 
 use crate::asked::{Asked, Requests};
 use crate::body::{reply_text, request_text};
-use crate::frames::{Frames, Types};
+use crate::frames::{Frames, MessageTypes};
 use crate::names::{Named, operation_called};
 use crate::quoted::Quoted;
 use crate::said::{Located, Said, read_said};
@@ -55,7 +55,7 @@ fn key_text(alloc: Global, key: &Option<Vec<u8>>) -> Result<String, AllocError> 
 }
 
 fn request_body(
-    types: &Types<'_>,
+    types: &MessageTypes<'_>,
     alloc: Global,
     named: Named,
     request: &Request<'_>,
@@ -71,7 +71,7 @@ fn request_body(
 
 /// The lines of a request. It is remembered where it wants an answer.
 fn request_lines(
-    types: &Types<'_>,
+    types: &MessageTypes<'_>,
     alloc: Global,
     own: &mut Requests,
     request: &Request<'_>,
@@ -104,7 +104,7 @@ fn is_of_operation(status: ReplyStatus) -> bool {
 
 /// The frames by which a reply is read.
 fn frames_of_reply<'t>(
-    types: &Types<'t>,
+    types: &MessageTypes<'t>,
     named: Option<Named>,
     status: ReplyStatus,
 ) -> Result<Frames<'t>, Unread>
@@ -123,7 +123,7 @@ fn frames_of_reply<'t>(
 }
 
 fn reply_body(
-    types: &Types<'_>,
+    types: &MessageTypes<'_>,
     alloc: Global,
     named: Option<Named>,
     reply: &Reply<'_>,
@@ -139,7 +139,7 @@ fn reply_body(
 
 /// The lines of a reply, whose request was of the other direction.
 fn reply_lines(
-    types: &Types<'_>,
+    types: &MessageTypes<'_>,
     alloc: Global,
     other: &mut Requests,
     reply: &Reply<'_>,
@@ -174,7 +174,7 @@ fn located_lines(alloc: Global, located: Located, body: &[u8]) -> Result<String,
 }
 
 fn message_lines(
-    types: &Types<'_>,
+    types: &MessageTypes<'_>,
     alloc: Global,
     own: &mut Requests,
     other: &mut Requests,
@@ -192,7 +192,7 @@ fn message_lines(
 
 /// The lines of a whole message.
 pub(crate) fn whole_lines(
-    types: &Types<'_>,
+    types: &MessageTypes<'_>,
     alloc: Global,
     own: &mut Requests,
     other: &mut Requests,

@@ -4,7 +4,7 @@ ghost use Rattle.std.specs.Prelude.{◌≡◌, slice_get, true, IfOk, MatchOptio
 ghost use Rattle.type_model.specs.Operations.{has_name};
 ghost use Rattle.giop_words.specs.Bodies.{HasNone, IsCalled};
 
-use crate::frames::Types;
+use crate::frames::MessageTypes;
 use giop::Request;
 use giop_types::find_value;
 use position_checker::Accepted;
@@ -52,7 +52,7 @@ fn is_body_of(
 /// The operation of the table that a request calls: of those with its name the first whose arguments its
 /// body is, else the first of them.
 fn of_table(
-    types: &Types<'_>,
+    types: &MessageTypes<'_>,
     alloc: Global,
     request: &Request<'_>,
 ) -> Result<Option<usize>, AllocError>
@@ -77,7 +77,7 @@ fn of_table(
 
 /// The operation that a request calls.
 pub(crate) fn operation_called(
-    types: &Types<'_>,
+    types: &MessageTypes<'_>,
     alloc: Global,
     request: &Request<'_>,
 ) -> Result<Named, AllocError>

@@ -3,7 +3,7 @@
 ghost use Rattle.std.specs.Prelude.{◌≤◌, length};
 
 use crate::asked::Requests;
-use crate::frames::Types;
+use crate::frames::MessageTypes;
 use crate::message::whole_lines;
 use giop_dumps::Words;
 use giop_dumps::captures::Side;
@@ -17,14 +17,14 @@ const REPLY: u8 = 1;
 /// replies.
 #[derive(Drop)]
 pub struct TableWords<'t> {
-    types: Types<'t>,
+    types: MessageTypes<'t>,
     first: Requests,
     second: Requests,
 }
 
 impl<'t> TableWords<'t> {
     /// Those by which nothing was told yet. Takes no memory.
-    pub fn new(alloc: Global, types: Types<'t>) -> TableWords<'t> {
+    pub fn new(alloc: Global, types: MessageTypes<'t>) -> TableWords<'t> {
         TableWords {
             types,
             first: Requests::new(alloc),

@@ -44,7 +44,7 @@ fn unexpected(cursor: &Cursor<'_, '_>, tokens: &[Token<'_>]) -> ParseFault
 }
 
 /// What a reader's stop means at the place among all tokens where it stopped.
-fn told(cursor: &Cursor<'_, '_>, tokens: &[Token<'_>], stop: Stop) -> ParseFault
+fn fault_of(cursor: &Cursor<'_, '_>, tokens: &[Token<'_>], stop: Stop) -> ParseFault
     ensures { stop ≡ StopNoMemory → result ≡ NoMemory }
 {
     match stop {
@@ -71,7 +71,7 @@ pub fn parse<'a>(alloc: Global, tokens: &[Token<'a>]) -> Result<Spec<'a>, ParseF
     let mut cursor = Cursor::new(alloc, tokens);
     let definitions = match read_all(&mut cursor, MAX_LEVELS) {
         Ok(definitions) => definitions,
-        Err(stop) => return Err(told(&cursor, tokens, stop)),
+        Err(stop) => return Err(fault_of(&cursor, tokens, stop)),
     };
     Ok(Spec { definitions })
 }

@@ -199,7 +199,7 @@ pub extern "C" fn idlc_name(
     };
     let answer = names::name_at(&held.loaded().table, place, out, node);
     *handle = Handle::of(held);
-    told(answer, len)
+    status_of(answer, len)
 }
 
 /// Writes the octets of the value that the whole tape is to the front of the buffer, with zeros in
@@ -366,7 +366,7 @@ pub extern "C" fn idlc_decode_text(
         out,
     );
     *handle = Handle::of(held);
-    told(answer, len)
+    status_of(answer, len)
 }
 
 /// Writes the request of these fields to the front of the buffer, with the body that the tape of the

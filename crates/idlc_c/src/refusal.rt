@@ -166,7 +166,7 @@ pub(crate) fn done(answer: Result<(), Refusal>, len: &mut usize) -> u32
 }
 
 /// The number of an answer. Its length is that of what was handed over, or would have been.
-pub(crate) fn told(answer: Result<usize, Refusal>, len: &mut usize) -> u32
+pub(crate) fn status_of(answer: Result<usize, Refusal>, len: &mut usize) -> u32
     ensures number { result ≡ number_of_answer answer }
     ensures length { len.new ≡ length_of answer len.old }
 {
@@ -192,5 +192,5 @@ pub(crate) fn told_at(
     if let Err(Refusal::NoText(unsaid)) = &answer {
         *place = SourcePlace::of_text(*unsaid);
     }
-    told(answer, len)
+    status_of(answer, len)
 }

@@ -1,7 +1,7 @@
 -- What is answered by a table is what was asked for.
 use Rattle.std.proofs.Common.{◌≡◌, inl, inr, Some, IfOk, IfErr, Result, Ok, Err, string_bytes, subst}
 use Rattle.idlc_main.specs.declared.fault.Fault.{Fault}
-use Rattle.idlc_main.specs.declared.told.Answer.{Answer}
+use Rattle.idlc_main.specs.declared.told.TaskOutput.{TaskOutput}
 use Rattle.command_words.specs.declared.task.TableTask.{TableTask}
 use Rattle.command_words.specs.declared.task.TableTask.TheVariants as tables
 use Rattle.command_words.specs.Ask.{Ask, Value, Reference, reference_ask_of, table_ask_of, table_of, value_ask_of}
@@ -12,7 +12,7 @@ use Rattle.table_file.specs.Table.{TableParts}
 use Rattle.command_texts.specs.Lines.{Labels}
 use Rattle.command_files.specs.Loaded.{IsLoaded}
 
-module _ (Reads : Passing) (ask : Ask) (result : Result Answer Fault) where
+module _ (Reads : Passing) (ask : Ask) (result : Result TaskOutput Fault) where
   of_same : (other : Ask) → Some other ≡ Some ask → IsAnswer Reads other result → IsAnswer Reads ask result
   of_same other same is = let one : other ≡ ask = cc in subst (λ (a : Ask). IsAnswer Reads a result) one is
 
@@ -29,7 +29,7 @@ module _ (Reads : Passing) (ask : Ask) (result : Result Answer Fault) where
 -- by the table that the name has
 module _ (Reads : Passing) (ask : Ask) (task : TableTask) (is : table_ask_of task ≡ Some ask) where
   pub answers : (table : TableParts) (labels : Labels) (loaded : IsLoaded Reads (table_of task) table labels)
-      (result : Result Answer Fault)
+      (result : Result TaskOutput Fault)
       → IfOk result (λ answer. Answers Reads task (string_bytes answer.text) table labels)
       → IfErr result (IsRefusalBy (Refuses Reads task) table labels) → IsAnswer Reads ask result
   answers table labels loaded (Ok answer) line fault =

@@ -1,7 +1,7 @@
 -- How a run ends, on an answer or a fault.
 use Rattle.std.proofs.Common.{◌≡◌, refl, sym, ◌∙◌, subst, ℕ, ◌≤◌, ◌⊎◌, inl, inr, List, Option, Ok, string_bytes, arith}
 use Rattle.std.specs.Io.KnownBytes.{Appends}
-use Rattle.idlc_main.specs.declared.told.Answer.{Answer}
+use Rattle.idlc_main.specs.declared.told.TaskOutput.{TaskOutput}
 use Rattle.idlc_main.specs.declared.fault.Fault.{Fault}
 use Rattle.idlc_main.specs.declared.fault.Fault.TheVariants.{Words, Refused, NotCompiled, Explained, NotSpelled, NoRefusal}
 use Rattle.command_words.specs.declared.mistake.Mistake.{Mistake}
@@ -75,7 +75,7 @@ module _ (Reads : Passing) (ask : Ask) (old new : Option (List ℕ)) where
   }
 
   -- standard output got the answer, or couldn't be written
-  pub ends_said : (answer : Answer) (status : ℕ) → (status ≡ 0) ⊎ (status ≡ 3)
+  pub ends_said : (answer : TaskOutput) (status : ℕ) → (status ≡ 0) ⊎ (status ≡ 3)
       → (status ≡ 0 → Appends old new (string_bytes answer.text))
       → IsAnswer Reads ask (Ok answer) → IsEndOf Reads ask status old new
   ends_said answer status (inl is_0) said is = record {

@@ -14,7 +14,7 @@ use Rattle.idlc_main.specs.Descriptions.{IsDescribed, IsDescriptionFault}
 use Rattle.idlc_main.specs.Fault.{status_of}
 use Rattle.idlc_main.specs.Tables.{AnswersBy, HasTable, IsTableFault, RefusesBy}
 use Rattle.command_words.specs.Ask.{Ask, Description, Explanation, Reference, Value}
-use Rattle.idlc_main.specs.declared.told.Answer.{Answer}
+use Rattle.idlc_main.specs.declared.told.TaskOutput.{TaskOutput}
 
 -- texts of the refusals that the word means, of one at least
 pub record AreExplained (word lines : List ℕ) : Type 0 where
@@ -51,7 +51,7 @@ IsFaultOf Reads (Reference ask) fault =
 IsFaultOf Reads (Explanation word) fault = IsExplanationFault word fault
 IsFaultOf Reads (Description word) fault = IsDescriptionFault Reads word fault
 
-pub record IsAnswer (Reads : Passing) (ask : Ask) (result : Result Answer Fault) : Type 0 where
+pub record IsAnswer (Reads : Passing) (ask : Ask) (result : Result TaskOutput Fault) : Type 0 where
   pub line : IfOk result (λ answer. IsLine Reads ask (string_bytes answer.text))
   pub fault : IfErr result (IsFaultOf Reads ask)
 

@@ -5,10 +5,10 @@ ghost use Rattle.std.specs.String.{string_bytes};
 ghost use Rattle.idlc_main.specs.Called.{IsConclusion};
 
 use crate::fault::Fault;
-use crate::listener::Listener;
+use crate::listener::ErrorReader;
 use crate::times::Times;
 use crate::told::named_fault;
-use call_commands::{CallRefusal, Ending, TextCall, Types, call_text};
+use call_commands::{CallRefusal, Ending, TextCall, CallTypes, call_text};
 use call_sockets::Dialler;
 use command_files::load;
 use command_tables::{WholeFiles, text_of};
@@ -52,14 +52,14 @@ struct Asked<'a, 't> {
     reference: &'t str,
     value: &'t str,
     /// Who hears how far it is.
-    listener: Listener,
+    listener: ErrorReader,
 }
 
 /// What is used by each of the calls.
 #[derive(Clone, Copy)]
 struct Calling<'a, 't> {
     asked: Asked<'a, 't>,
-    types: Types<'t>,
+    types: CallTypes<'t>,
 }
 
 /// One call. The reference is read for it, since the call takes it.
@@ -119,7 +119,7 @@ fn conclusion(alloc: Global, ending: Ending, times: Option<Times>) -> Result<Con
 }
 
 /// Tells a person once a second how far the calls are.
-fn tell_progress<R: Clock + Eprint>(rt: &R, times: &mut Times, listener: Listener) {
+fn tell_progress<R: Clock + Eprint>(rt: &R, times: &mut Times, listener: ErrorReader) {
     if listener.is_person() && times.is_due(rt) {
         let _ = eprintln!(rt; "idlc: {times}");
     }
@@ -156,7 +156,7 @@ fn called_with<'a, R: Net + Clock + Eprint + AllocGlobal>(
 ) -> Result<Concluded, Fault<'a>> {
     match Giop::new(rt.alloc()) {
         Ok(giop) => {
-            let types = Types {
+            let types = CallTypes {
                 giop: &giop,
                 table: &loaded.table,
                 names: &loaded.names,
@@ -172,7 +172,7 @@ fn called_by<'a, R: WholeFiles + Net + Clock + Eprint + AllocGlobal>(
     rt: &R,
     task: &CallTask<'a>,
     loaded: &Loaded,
-    listener: Listener,
+    listener: ErrorReader,
 ) -> Result<Concluded, Fault<'a>> {
     let reference = text_of(rt, task.reference).map_err(Fault::Refused)?;
     let value = text_of(rt, task.value.unwrap_or(NO_ARGUMENTS)).map_err(Fault::Refused)?;
@@ -189,7 +189,7 @@ fn called_by<'a, R: WholeFiles + Net + Clock + Eprint + AllocGlobal>(
 pub fn called<'a, R: WholeFiles + Net + Clock + Eprint + AllocGlobal>(
     rt: &R,
     task: &CallTask<'a>,
-    listener: Listener,
+    listener: ErrorReader,
 ) -> Result<Concluded, Fault<'a>> {
     match load(rt, task.table) {
         Ok(loaded) => called_by(rt, task, &loaded, listener),

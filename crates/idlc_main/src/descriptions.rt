@@ -9,7 +9,7 @@ ghost use Rattle.idlc_main.specs.Descriptions.{IsDescribed, IsDescriptionFault};
 ghost use Rattle.idlc_main.specs.Fault.{IsTold};
 
 use crate::fault::Fault;
-use crate::told::Answer;
+use crate::told::TaskOutput;
 use command_tables::{Refusal, WholeFiles, text_of};
 use giop_types::GiopTypes;
 use reference_listing::spelled_references::{SpellingFault, described_reference};
@@ -19,7 +19,7 @@ fn described_text<'a, R: WholeFiles + AllocGlobal>(
     rt: &R,
     word: &str,
     text: &str,
-) -> Result<Answer, Fault<'a>>
+) -> Result<TaskOutput, Fault<'a>>
     requires { IsTextFor (R.reads rt.now) word.now text.now }
     ensures described { IfOk result (λ answer.
         IsDescribed (R.reads rt.now) word.now (string_bytes answer.text)) }
@@ -27,7 +27,7 @@ fn described_text<'a, R: WholeFiles + AllocGlobal>(
 {
     let types = GiopTypes::new(rt.alloc())?;
     match described_reference(&types, rt.alloc(), text.trim_ascii()) {
-        Ok(lines) => Ok(Answer::plain(lines)),
+        Ok(lines) => Ok(TaskOutput::plain(lines)),
         Err(fault) => Err(Fault::NotSpelled(fault)),
     }
 }
@@ -36,7 +36,7 @@ fn described_text<'a, R: WholeFiles + AllocGlobal>(
 pub fn described<'a, R: WholeFiles + AllocGlobal>(
     rt: &R,
     word: &'a str,
-) -> Result<Answer, Fault<'a>>
+) -> Result<TaskOutput, Fault<'a>>
     ensures answers { IsAnswer (R.reads rt.now) (Description word.now) result }
     ensures told { IfErr result IsTold }
 {

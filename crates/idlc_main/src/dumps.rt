@@ -5,7 +5,7 @@ ghost use Rattle.idlc_main.specs.Dumps.{IsDumpEnd};
 ghost use Rattle.idlc_main.specs.Fault.{status_of};
 
 use crate::fault::Fault;
-use crate::listener::Listener;
+use crate::listener::ErrorReader;
 use crate::told::named_fault;
 use command_files::load;
 use command_tables::WholeFiles;
@@ -21,7 +21,7 @@ pub fn dumped<'a, R: WholeFiles + CaptureFiles + Clock + AllocGlobal, O: Write>(
     rt: &R,
     task: &DumpTask<'a>,
     out: &mut O,
-    listener: Listener,
+    listener: ErrorReader,
 ) -> Result<(), Fault<'a>>
     ensures status { IfErr result (λ fault. (status_of fault ≡ 3) ⊎ (out.new ≡ out.old)) }
     ensures output { IfErr result (λ fault. IsDumpEnd O.contents fault out.old out.new) }

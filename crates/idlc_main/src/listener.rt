@@ -4,7 +4,7 @@ use diagnostic_views::Look;
 
 /// Who reads standard error.
 #[derive(Clone, Copy, Debug, PartialEq, Eq)]
-pub enum Listener {
+pub enum ErrorReader {
     /// A program or a file: a fault is one line.
     Program,
     /// One who asked for what else is known, by `--explain`.
@@ -13,11 +13,11 @@ pub enum Listener {
     Person(Look),
 }
 
-impl Listener {
+impl ErrorReader {
     /// The same, where words may ask for what else is known.
-    pub fn asking(self, explains: bool) -> Listener {
+    pub fn asking(self, explains: bool) -> ErrorReader {
         match self {
-            Listener::Program if explains => Listener::Asker,
+            ErrorReader::Program if explains => ErrorReader::Asker,
             heard => heard,
         }
     }
@@ -25,13 +25,13 @@ impl Listener {
     /// How what else is known looks, if it is told.
     pub fn look(self) -> Option<Look> {
         match self {
-            Listener::Program => None,
-            Listener::Asker => Some(Look::Plain),
-            Listener::Person(look) => Some(look),
+            ErrorReader::Program => None,
+            ErrorReader::Asker => Some(Look::Plain),
+            ErrorReader::Person(look) => Some(look),
         }
     }
 
     pub fn is_person(self) -> bool {
-        matches!(self, Listener::Person(_))
+        matches!(self, ErrorReader::Person(_))
     }
 }

@@ -26,8 +26,8 @@ use crate::calls::{CallEnd, Concluded, called};
 use crate::dumps::dumped;
 use crate::fault::Fault;
 use crate::known::known;
-use crate::listener::Listener;
-use crate::service::served;
+use crate::listener::ErrorReader;
+use crate::service::run_service;
 use crate::tasks::{done, table_in};
 use broker_sockets::Totals;
 use call_commands::ExceptionLine;
@@ -59,7 +59,7 @@ fn tell_known<R: WholeFiles + AllocGlobal, E: io::Write>(
     err: &mut E,
     fault: &Fault<'_>,
     table: Option<&str>,
-    listener: Listener,
+    listener: ErrorReader,
 ) {
     if listener.look().is_some()
         && let Ok(Some(lines)) = known(rt, fault, table)
@@ -74,7 +74,7 @@ fn failed<R: WholeFiles + AllocGlobal, E: io::Write>(
     err: &mut E,
     fault: &Fault<'_>,
     table: Option<&str>,
-    listener: Listener,
+    listener: ErrorReader,
 ) -> u8
     ensures { result ≡ status_of fault.now }
 {
@@ -89,7 +89,7 @@ fn failed<R: WholeFiles + AllocGlobal, E: io::Write>(
 
 /// Puts an answer's text on standard output, tells on standard error what else is told, and gives
 /// the status.
-fn say<O: io::Write, E: io::Write>(out: &mut O, err: &mut E, answer: &told::Answer) -> u8
+fn say<O: io::Write, E: io::Write>(out: &mut O, err: &mut E, answer: &told::TaskOutput) -> u8
     ensures range { (result ≡ 0) ⊎ (result ≡ 3) }
     ensures said { result ≡ 0 → Appends (O.contents out.old) (O.contents out.new) (string_bytes answer.now.text) }
 {
@@ -138,7 +138,7 @@ fn conclude<O: io::Write, E: io::Write>(out: &mut O, err: &mut E, concluded: &Co
 }
 
 /// Tells a person how much was served, and gives the status.
-fn tell<E: io::Write>(err: &mut E, totals: &Totals, listener: Listener) -> u8
+fn tell<E: io::Write>(err: &mut E, totals: &Totals, listener: ErrorReader) -> u8
     ensures { result ≡ 0 }
 {
     if listener.is_person() {
@@ -157,7 +157,7 @@ pub fn run<
     R: WholeFiles + CaptureFiles + Net + Clock + Eprint + AllocGlobal,
     O: io::Write,
     E: io::Write,
->(rt: &R, words: &[&str], out: &mut O, err: &mut E, listener: Listener) -> u8
+>(rt: &R, words: &[&str], out: &mut O, err: &mut E, listener: ErrorReader) -> u8
     ensures range { result ≤ 6 }
     ensures asked { (ask : Ask) → AsksFor (texts words.now) (Answer ask)
         → IsEndOf (R.reads rt.now) ask result (O.contents out.old) (O.contents out.new) }
@@ -172,12 +172,12 @@ pub fn run<
     };
     let listener = listener.asking(line.explains);
     match line.said {
-        Said::Help(text) => say(out, err, &told::Answer::plain(text)),
+        Said::Help(text) => say(out, err, &told::TaskOutput::plain(text)),
         Said::Do(task) => match done(rt, &task, listener) {
             Ok(answer) => say(out, err, &answer),
             Err(fault) => failed(rt, err, &fault, table_in(&task), listener),
         },
-        Said::Serve(service) => match served(rt, out, &service, listener) {
+        Said::Serve(service) => match run_service(rt, out, &service, listener) {
             Ok(totals) => tell(err, &totals, listener),
             Err(fault) => failed(rt, err, &fault, Some(service.table), listener),
         },
@@ -207,14 +207,14 @@ fn own_words<R: Env + AllocGlobal>(rt: &R) -> Result<Vec<String>, Fault<'static>
 
 /// Who reads standard error: a person if it is a terminal. Colours are left out where the variable
 /// `NO_COLOR` is there and isn't empty.
-fn listener_at<R: Env + AllocGlobal, E: IsTerminal>(rt: &R, err: &E) -> Listener {
+fn listener_at<R: Env + AllocGlobal, E: IsTerminal>(rt: &R, err: &E) -> ErrorReader {
     if !err.is_terminal() {
-        return Listener::Program;
+        return ErrorReader::Program;
     }
     match env::var(rt, "NO_COLOR") {
-        Ok(text) if text.is_empty() => Listener::Person(Look::Coloured),
-        Err(VarError::NotPresent) => Listener::Person(Look::Coloured),
-        Ok(_) | Err(_) => Listener::Person(Look::Plain),
+        Ok(text) if text.is_empty() => ErrorReader::Person(Look::Coloured),
+        Err(VarError::NotPresent) => ErrorReader::Person(Look::Coloured),
+        Ok(_) | Err(_) => ErrorReader::Person(Look::Plain),
     }
 }
 

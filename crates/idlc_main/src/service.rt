@@ -8,7 +8,7 @@ ghost use Rattle.idlc_main.specs.Fault.{status_of};
 ghost use Rattle.idlc_main.specs.Service.{IsServed};
 
 use crate::fault::Fault;
-use crate::listener::Listener;
+use crate::listener::ErrorReader;
 use crate::told::named_fault;
 use broker_sockets::{ServeOptions, Totals, serve};
 use command_files::load;
@@ -19,11 +19,11 @@ use std::net::Net;
 use std::time::Clock;
 
 /// Serves calls by a table, which is checked before anything listens, and tells how much was served.
-pub fn served<'a, R: WholeFiles + Net + Clock + Eprint + AllocGlobal, O: Write>(
+pub fn run_service<'a, R: WholeFiles + Net + Clock + Eprint + AllocGlobal, O: Write>(
     rt: &R,
     out: &mut O,
     service: &Service<'a>,
-    listener: Listener,
+    listener: ErrorReader,
 ) -> Result<Totals, Fault<'a>>
     ensures done { OnOk result (IsServed (R.reads rt.now) service.now) }
     ensures counted { IfOk result (λ totals. totals.connections ≡ service.now.connections) }

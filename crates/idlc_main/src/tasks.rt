@@ -12,8 +12,8 @@ ghost use Rattle.idlc_main.specs.Tables.{Answers, AnswersBy, IsRefusalBy, Refuse
 
 use crate::descriptions::described;
 use crate::fault::Fault;
-use crate::listener::Listener;
-use crate::told::{Answer, Notice, named_fault, source_fault};
+use crate::listener::ErrorReader;
+use crate::told::{TaskOutput, Notice, named_fault, source_fault};
 use command_files::load;
 use command_tables::{
     Refusal, WholeFiles, input_of, read_file, reference_line, upgrade, write_file,
@@ -69,14 +69,14 @@ fn answered<'a, R: WholeFiles + AllocGlobal>(
     rt: &R,
     task: &TableTask<'a>,
     loaded: &Loaded,
-) -> Result<Answer, Fault<'a>>
+) -> Result<TaskOutput, Fault<'a>>
     ensures line { IfOk result (λ answer. Answers (R.reads rt.now) task.now (string_bytes answer.text)
         loaded.now.table loaded.now.names) }
     ensures refused { IfErr result (IsRefusalBy (Refuses (R.reads rt.now) task.now) loaded.now.table loaded.now.names) }
     ensures told { IfErr result IsTold }
 {
     match line_by(rt, task, loaded) {
-        Ok(line) => Ok(Answer::plain(line)),
+        Ok(line) => Ok(TaskOutput::plain(line)),
         Err(refusal) => Err(Fault::Refused(refusal)),
     }
 }
@@ -86,19 +86,19 @@ fn upgraded<'a, R: WholeFiles + AllocGlobal>(
     rt: &R,
     name: &'a str,
     output: &'a str,
-) -> Result<Answer, Fault<'a>>
+) -> Result<TaskOutput, Fault<'a>>
     ensures written { IfOk result (λ answer.
         IsUpgraded (R.reads rt.now) (R.takes rt.now) name.now output.now (string_bytes answer.text)) }
     ensures told { IfErr result IsTold }
 {
     match upgrade(rt, name, output) {
-        Ok(line) => Ok(Answer::plain(line)),
+        Ok(line) => Ok(TaskOutput::plain(line)),
         Err(refusal) => Err(Fault::Refused(refusal)),
     }
 }
 
 /// The texts of the refusals that a word means.
-fn explained<'a, R: WholeFiles + AllocGlobal>(rt: &R, word: &'a str) -> Result<Answer, Fault<'a>>
+fn explained<'a, R: WholeFiles + AllocGlobal>(rt: &R, word: &'a str) -> Result<TaskOutput, Fault<'a>>
     ensures answers { IsAnswer (R.reads rt.now) (Explanation (Some word.now)) result }
     ensures told { IfErr result IsTold }
 {
@@ -106,15 +106,15 @@ fn explained<'a, R: WholeFiles + AllocGlobal>(rt: &R, word: &'a str) -> Result<A
     if texts.is_empty() {
         return Err(Fault::NoRefusal { word });
     }
-    Ok(Answer::plain(texts))
+    Ok(TaskOutput::plain(texts))
 }
 
 /// The numbers and names of all refusals.
-fn listed<'a, R: WholeFiles + AllocGlobal>(rt: &R) -> Result<Answer, Fault<'a>>
+fn listed<'a, R: WholeFiles + AllocGlobal>(rt: &R) -> Result<TaskOutput, Fault<'a>>
     ensures answers { IsAnswer (R.reads rt.now) (Explanation None) result }
     ensures told { IfErr result IsTold }
 {
-    Ok(Answer::plain(headings(rt.alloc())?))
+    Ok(TaskOutput::plain(headings(rt.alloc())?))
 }
 
 /// Writes the table file of an IDL file. It is handed no other octets.
@@ -135,8 +135,8 @@ fn compile<'a, R: WholeFiles + AllocGlobal>(
     rt: &R,
     name: &'a str,
     output: &'a str,
-    listener: Listener,
-) -> Result<Answer, Fault<'a>>
+    listener: ErrorReader,
+) -> Result<TaskOutput, Fault<'a>>
     ensures compiled { IfOk result (λ answer.
         IsCompiledTo (R.reads rt.now) (R.takes rt.now) name.now output.now (string_bytes answer.text)) }
     ensures told { IfErr result IsTold }
@@ -152,7 +152,7 @@ fn compile<'a, R: WholeFiles + AllocGlobal>(
         }
     };
     match put_compiled(rt, output, source.as_slice(), &file) {
-        Ok(()) => Ok(Answer {
+        Ok(()) => Ok(TaskOutput {
             text: file.line,
             notice: if file.is_planned {
                 None
@@ -178,8 +178,8 @@ pub fn table_in<'a>(task: &Task<'a>) -> Option<&'a str> {
 pub fn done<'a, R: WholeFiles + AllocGlobal>(
     rt: &R,
     task: &Task<'a>,
-    listener: Listener,
-) -> Result<Answer, Fault<'a>>
+    listener: ErrorReader,
+) -> Result<TaskOutput, Fault<'a>>
     ensures answers { (ask : Ask) → ask_of task.now ≡ Some ask → IsAnswer (R.reads rt.now) ask result }
     ensures tables { IfOk result (λ answer.
         IsDone (R.reads rt.now) (R.takes rt.now) task.now (string_bytes answer.text)) }

@@ -6,7 +6,7 @@ ghost use Rattle.idlc_main.specs.Fault.{IsOfSource, IsTold};
 ghost use Rattle.idlc_main.specs.Tables.{IsUnloaded};
 
 use crate::fault::Fault;
-use crate::listener::Listener;
+use crate::listener::ErrorReader;
 use command_files::NamedFault;
 use command_tables::{WholeFiles, read_file};
 use diagnostic_views::view;
@@ -31,17 +31,17 @@ impl fmt::Display for Notice {
 
 /// The text for standard output, and what else is told.
 #[derive(Drop)]
-pub struct Answer {
+pub struct TaskOutput {
     pub text: String,
     pub notice: Option<Notice>,
 }
 
-impl Answer {
+impl TaskOutput {
     /// An answer behind which nothing else is told.
-    pub fn plain(text: String) -> Answer
+    pub fn plain(text: String) -> TaskOutput
         ensures { result.text ≡ text }
     {
-        Answer { text, notice: None }
+        TaskOutput { text, notice: None }
     }
 }
 
@@ -52,7 +52,7 @@ pub fn source_fault<'a>(
     name: &str,
     source: &[u8],
     refusal: CompileFault,
-    listener: Listener,
+    listener: ErrorReader,
 ) -> Fault<'a>
     ensures { IsOfSource refusal result }
 {
@@ -69,7 +69,7 @@ fn source_fault_of<'a, R: WholeFiles + AllocGlobal>(
     rt: &R,
     name: &str,
     refusal: CompileFault,
-    listener: Listener,
+    listener: ErrorReader,
 ) -> Fault<'a>
     ensures { IsOfSource refusal result }
 {
@@ -87,7 +87,7 @@ pub fn named_fault<'a, R: WholeFiles + AllocGlobal>(
     rt: &R,
     name: &str,
     fault: NamedFault<'a>,
-    listener: Listener,
+    listener: ErrorReader,
 ) -> Fault<'a>
     requires { IsNotLoaded (R.reads rt.now) name.now fault.entry }
     ensures is { IsUnloaded (R.reads rt.now) name.now result }

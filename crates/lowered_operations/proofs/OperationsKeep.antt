@@ -24,7 +24,7 @@ use Rattle.name_steps.proofs.Asks.{param_asks, result_asks}
 use Rattle.scoped_names.proofs.Parts.{Closed, both_closed, closed, each_closed, one_closed}
 use Rattle.lowered_types.specs.declared.place.Place.{Place}
 use Rattle.lowered_types.specs.declared.place.Place.TheVariants.{Called, Got, GotAndSet}
-use Rattle.lowered_types.specs.declared.fault.Answer.{Answer}
+use Rattle.lowered_types.specs.declared.fault.FirstAnswer.{FirstAnswer}
 use Rattle.lowered_types.specs.declared.fault.BuildFault.{BuildFault}
 use Rattle.lowered_types.specs.declared.fault.BuildFault.TheVariants.{Types}
 use Rattle.lowered_types.specs.Faults.{each}
@@ -327,7 +327,7 @@ all_carried_fine es g w scope o i result feature params =
 oneway_fine : (o : Operation) → Fine (λ u. Unit {0}) (oneway_test o)
 oneway_fine o = by o.is_oneway (answer_of o)
   where
-    by : (b : Bool) (a : Option Answer)
+    by : (b : Bool) (a : Option FirstAnswer)
         → (let r : Result (Unit {0}) BuildFault = if b then answer_test o a else Ok tt in Fine (λ u. Unit {0}) r)
     by true None = tt
     by true (Some answer) = tt

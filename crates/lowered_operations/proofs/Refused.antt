@@ -11,8 +11,8 @@ use Rattle.idl_tree.specs.declared.definitions.Operation.{Operation}
 use Rattle.idl_tree.specs.Starts.{leaf_at}
 use Rattle.type_graph.specs.declared.fault.GraphLimit.TheVariants.{Members as MembersLimit}
 use Rattle.name_table.specs.Entry.{Entry}
-use Rattle.lowered_types.specs.declared.fault.Answer.{Answer}
-use Rattle.lowered_types.specs.declared.fault.Answer.TheVariants.{Exceptions, Result as ResultAnswer}
+use Rattle.lowered_types.specs.declared.fault.FirstAnswer.{FirstAnswer}
+use Rattle.lowered_types.specs.declared.fault.FirstAnswer.TheVariants.{Exceptions, Result as ResultAnswer}
 use Rattle.lowered_types.specs.declared.fault.BuildFault.TheVariants.{Types, OtherNames}
 use Rattle.lowered_types.specs.declared.fault.TypeFault.TheVariants.{BadOneway}
 use Rattle.lowered_types.specs.declared.place.Place.TheVariants.{Typed}
@@ -29,7 +29,7 @@ use Rattle.lowered_operations.specs.Operations.{Defined, exception_found, except
 -- ---- oneway operations
 
 -- one that answers something
-pub answers : (es : List Entry) (scope : ℕ) (d : Defined) (o : Operation) (answer : Answer) → o.is_oneway ≡ true
+pub answers : (es : List Entry) (scope : ℕ) (d : Defined) (o : Operation) (answer : FirstAnswer) → o.is_oneway ≡ true
     → answer_of o ≡ Some answer
     → operation es scope d o ≡ Err (Types (BadOneway (leaf_at o.identifier) answer))
 answers es scope d o answer oneway is =
@@ -46,14 +46,14 @@ has_result es scope d o t oneway is =
     (ap (λ r. option_or (result_answer r) (option_or (param_answer (parts_of o.params)) (raises_answer o.raises))) is)
 
 -- what comes behind is answered, or something before it
-behind_some : (o : Option Answer) (behind : Answer) → (answer : Answer) × (option_or o (Some behind) ≡ Some answer)
+behind_some : (o : Option FirstAnswer) (behind : FirstAnswer) → (answer : FirstAnswer) × (option_or o (Some behind) ≡ Some answer)
 behind_some None behind = (behind, refl)
 behind_some (Some answer) behind = (answer, refl)
 
 -- a parameter isn't an `in` one
-pub has_out : (es : List Entry) (scope : ℕ) (d : Defined) (o : Operation) (p : Answer) → o.is_oneway ≡ true
+pub has_out : (es : List Entry) (scope : ℕ) (d : Defined) (o : Operation) (p : FirstAnswer) → o.is_oneway ≡ true
     → param_answer (parts_of o.params) ≡ Some p
-    → (answer : Answer) × (operation es scope d o ≡ Err (Types (BadOneway (leaf_at o.identifier) answer)))
+    → (answer : FirstAnswer) × (operation es scope d o ≡ Err (Types (BadOneway (leaf_at o.identifier) answer)))
 has_out es scope d o p oneway is =
     let (answer, some) = behind_some (result_answer o.result_type) p in (
       answer,
@@ -63,7 +63,7 @@ has_out es scope d o p oneway is =
 
 pub has_raises : (es : List Entry) (scope : ℕ) (d : Defined) (o : Operation) (names : Listed ScopedName)
     → o.is_oneway ≡ true → o.raises ≡ Some names
-    → (answer : Answer) × (operation es scope d o ≡ Err (Types (BadOneway (leaf_at o.identifier) answer)))
+    → (answer : FirstAnswer) × (operation es scope d o ≡ Err (Types (BadOneway (leaf_at o.identifier) answer)))
 has_raises es scope d o names oneway is =
     let (inner, some_inner) = behind_some (param_answer (parts_of o.params)) Exceptions in
     let (answer, some) = behind_some (result_answer o.result_type) inner in (
@@ -80,8 +80,8 @@ pub oneway_kept : (es : List Entry) (scope : ℕ) (d behind : Defined) (o : Oper
     → answer_of o ≡ None
 oneway_kept es scope d behind o lowered oneway = by (answer_of o) (λ answer. answers es scope d o answer oneway)
   where
-    by : (a : Option Answer)
-        → ((answer : Answer) → a ≡ Some answer → operation es scope d o
+    by : (a : Option FirstAnswer)
+        → ((answer : FirstAnswer) → a ≡ Some answer → operation es scope d o
         ≡ Err (Types (BadOneway (leaf_at o.identifier) answer))) → a ≡ None
     by None refused = refl
     by (Some answer) refused = let told = refused answer refl in absurd cc

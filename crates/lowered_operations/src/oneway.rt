@@ -6,26 +6,26 @@ ghost use Rattle.lowered_operations.specs.Oneway.{answer_of, oneway_test, param_
 
 use idl_tree::definitions::{Direction, Operation, Param};
 use idl_tree::names::Listed;
-use lowered_types::{Answer, BuildFault, TypeFault};
+use lowered_types::{FirstAnswer, BuildFault, TypeFault};
 
 /// The first parameter that isn't an `in` one.
-fn param_answer(params: &Listed<Param<'_>>) -> Option<Answer>
+fn param_answer(params: &Listed<Param<'_>>) -> Option<FirstAnswer>
     ensures { result ≡ param_answer (parts params.now) }
 {
     for param in params.iter() {
         if param.direction != Direction::In {
-            return Some(Answer::Parameter(param.identifier.at()));
+            return Some(FirstAnswer::Parameter(param.identifier.at()));
         }
     }
     None
 }
 
 /// What an operation answers first, in the order of reading.
-fn answer_of(o: &Operation<'_>) -> Option<Answer>
+fn answer_of(o: &Operation<'_>) -> Option<FirstAnswer>
     ensures { result ≡ answer_of o.now }
 {
     if o.result_type.is_some() {
-        return Some(Answer::Result);
+        return Some(FirstAnswer::Result);
     }
     if let Some(params) = &o.params {
         if let Some(answer) = param_answer(params) {
@@ -33,7 +33,7 @@ fn answer_of(o: &Operation<'_>) -> Option<Answer>
         }
     }
     match o.raises {
-        Some(_) => Some(Answer::Exceptions),
+        Some(_) => Some(FirstAnswer::Exceptions),
         None => None,
     }
 }

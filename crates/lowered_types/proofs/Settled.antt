@@ -277,7 +277,7 @@ new_split : (es : List Entry) (g xs ys : List Introduction) → AllNew es g (xs 
 new_split es g [] ys h = (tt, h)
 new_split es g (x ∷ xs) ys (h, hs) = let rest = new_split es (x ∷ g) xs ys hs in ((h, rest.0), rest.1)
 
-pub now_known : (es : List Entry) (g xs : List Introduction) (e k : ℕ) (x : Introduction) → k < length xs
+now_known : (es : List Entry) (g xs : List Introduction) (e k : ℕ) (x : Introduction) → k < length xs
     → get_or xs k x ≡ x → StandsFor es e x → Known es (onto xs g) e
 now_known es g [] e k x lt is stands = absurd (omega (arith, lt))
 now_known es g (y ∷ ys) e zero x lt is stands =

@@ -38,7 +38,7 @@ pub enum LabelWorth {
 
 /// What an operation answers first, in the order of reading.
 #[derive(Clone, Copy, Debug, PartialEq, Eq)]
-pub enum Answer {
+pub enum FirstAnswer {
     /// It has a result.
     Result,
     /// A parameter that isn't `in`; its identifier stands there.
@@ -95,7 +95,7 @@ pub enum TypeFault {
     #[error("36 BadOneway line {at}")]
     BadOneway {
         at: At,
-        answer: Answer,
+        answer: FirstAnswer,
     },
 }
 

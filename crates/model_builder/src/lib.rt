@@ -12,5 +12,5 @@ mod signatures;
 
 pub use fault::ModelFault;
 pub use file::build;
-pub use lowered_types::{Answer, LabelWorth, TypeFault, TypeKind};
+pub use lowered_types::{FirstAnswer, LabelWorth, TypeFault, TypeKind};
 pub use model::Built;

@@ -16,7 +16,7 @@ use type_paths::{PathFault, find_path_fault};
 const MAX_PATH: u32 = 64;
 
 /// What is told of a path.
-fn told(fault: PathFault) -> TypeFault
+fn path_fault(fault: PathFault) -> TypeFault
     ensures { result ≡ path_told fault }
 {
     match fault {
@@ -38,7 +38,7 @@ pub(crate) fn check_paths(alloc: Global, types: &TypeTable) -> Result<(), ModelF
     ensures refused { IfErr result (IsRefusedBehind types.now) }
 {
     match find_path_fault(alloc, types.nodes(), BASIC_NODES as usize, types.sites())? {
-        Some(fault) => Err(ModelFault::Types(told(fault))),
+        Some(fault) => Err(ModelFault::Types(path_fault(fault))),
         None => Ok(()),
     }
 }

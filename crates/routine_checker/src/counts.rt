@@ -21,7 +21,7 @@ pub enum Piece {
 
 /// The node of the number is made of so many of the pieces.
 #[derive(Clone, Copy)]
-pub struct Made {
+pub struct CountedNode {
     pub number: u32,
     pub piece: Piece,
     pub n: u32,
@@ -79,7 +79,7 @@ fn product(n: u32, count: u32) -> u32
 #[derive(Drop)]
 pub struct Entries {
     pub starts: Vec<usize>,
-    pub entries: Vec<Made>,
+    pub entries: Vec<CountedNode>,
 }
 
 impl Entries {
@@ -158,7 +158,7 @@ impl Entries {
         }
     }
 
-    fn add(&mut self, made: Made) -> Result<(), AllocError>
+    fn add(&mut self, made: CountedNode) -> Result<(), AllocError>
         ensures { (graph : List Node) → AreEntries graph self.old → IsMade graph made → AreEntries graph self.new }
     {
         self.entries.push(made)?;
@@ -170,13 +170,13 @@ impl Entries {
         requires { AreEntries nodes.now self.old }
         ensures { AreEntries nodes.now self.new }
     {
-        self.add(Made {
+        self.add(CountedNode {
             number,
             piece: Piece::Node { number },
             n: 1,
         })?;
         if let Some(kind) = kind_at(nodes, number) {
-            self.add(Made {
+            self.add(CountedNode {
                 number,
                 piece: Piece::Kind { kind },
                 n: 1,
@@ -202,7 +202,7 @@ impl Entries {
         }
         let n = self.of_parts(piece, node);
         if n > 0 {
-            self.add(Made { number, piece, n })?;
+            self.add(CountedNode { number, piece, n })?;
         }
         Ok(())
     }

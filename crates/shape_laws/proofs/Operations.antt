@@ -16,8 +16,8 @@ use Rattle.idl_tree.specs.declared.names.At.{At}
 use Rattle.idl_tree.specs.Starts.{leaf_at}
 use Rattle.name_table.specs.Entry.{Entry}
 use Rattle.scoped_names.specs.Reading.{◌>>◌}
-use Rattle.lowered_types.specs.declared.fault.Answer.{Answer}
-use Rattle.lowered_types.specs.declared.fault.Answer.TheVariants.{Parameter}
+use Rattle.lowered_types.specs.declared.fault.FirstAnswer.{FirstAnswer}
+use Rattle.lowered_types.specs.declared.fault.FirstAnswer.TheVariants.{Parameter}
 use Rattle.lowered_types.specs.declared.fault.BuildFault.TheVariants.{Types}
 use Rattle.lowered_types.specs.declared.fault.TypeFault.TheVariants.{BadOneway}
 use Rattle.lowered_types.specs.declared.place.Place.TheVariants.{Called}
@@ -104,7 +104,7 @@ answer_same a b h =
     let raises = raises_answer_same a.raises b.raises (raises_of a b h) in
     λ i. option_or (result i) (option_or (params i) (raises i))
 
-answer_test_same : (a b : Operation) → operation_shape a ≡ operation_shape b → (x : Option Answer)
+answer_test_same : (a b : Operation) → operation_shape a ≡ operation_shape b → (x : Option FirstAnswer)
     → answer_test a x ≡ answer_test b x
 answer_test_same a b h None = refl
 answer_test_same a b h (Some answer) = λ i. Err (Types (BadOneway (place_at a b h i) answer))

@@ -6,7 +6,7 @@ ghost use Rattle.giop.specs.Made.{given_by};
 ghost use Rattle.call_client.specs.Talks.{IsCalledAt, asking};
 
 use crate::object_calls::dial::{Dial, DialFault};
-use crate::{Answer, CallFault, Request, call};
+use crate::{ReplyBody, CallFault, Request, call};
 use giop::{Body, Giop};
 use giop_messages::GiopFault;
 use std::alloc::Global;
@@ -25,7 +25,7 @@ pub fn call_at<D: Dial>(
     request: &Request<'_>,
     body: Option<Body<'_>>,
     reads: u64,
-) -> Result<Option<Answer>, CallFault>
+) -> Result<Option<ReplyBody>, CallFault>
     requires { ForSome body (λ b. IsNamed b.0.now.model.names b.1) }
     ensures { IsCalledAt (D.went dial.old) (D.went dial.new) (asking request.now (given_by body.entry) reads)
         host.now port (D.lines dial.old) result (D.lines dial.new) }

@@ -14,7 +14,7 @@ ghost use Rattle.call_client.specs.Talks.{IsCalledBy, IsCalledTo, asking, misses
 use crate::object_calls::calling::call_at;
 use crate::object_calls::dial::Dial;
 use crate::object_calls::form::Form;
-use crate::{Answer, CallFault, Request};
+use crate::{ReplyBody, CallFault, Request};
 use giop::{Addressed, Body, Giop, Ior, Tagged};
 use reference_listing::{IiopProfile, ListedProfile};
 use std::alloc::Global;
@@ -74,7 +74,7 @@ fn call_to<D: Dial>(
     request: &Request<'_>,
     body: Option<Body<'_>>,
     reads: u64,
-) -> Result<Option<Answer>, CallFault>
+) -> Result<Option<ReplyBody>, CallFault>
     requires { ForSome body (λ b. IsNamed b.0.now.model.names b.1) }
     ensures { IsCalledTo (D.went dial.old) (D.went dial.new) (asking request.now (given_by body.entry) reads)
         (IsTarget (naming form (reference_of ior.now)) place (iiop_of profile.now)) (iiop_of profile.now)
@@ -131,7 +131,7 @@ pub fn call_by<D: Dial>(
     request: &Request<'_>,
     body: Option<Body<'_>>,
     reads: u64,
-) -> Result<Option<Answer>, CallFault>
+) -> Result<Option<ReplyBody>, CallFault>
     requires { ForSome body (λ b. IsNamed b.0.now.model.names b.1) }
     ensures { IsCalledBy (D.went dial.old) (D.went dial.new) (asking request.now (given_by body.entry) reads)
         (naming form (reference_of ior.now)) (rows_of profiles.now) (D.lines dial.old) result (D.lines dial.new) }

@@ -13,7 +13,7 @@ ghost use Rattle.call_commands.specs.Wanted.{called_of};
 
 use crate::followed_calls::wanted::Wanted;
 use call_client::object_calls::{Dial, Form, call_by};
-use call_client::{Answer, CallFault, Request};
+use call_client::{ReplyBody, CallFault, Request};
 use command_texts::call_texts::{Outcome, read_outcome};
 use giop::{Body, Giop, Reply};
 use giop_messages::GiopFault;
@@ -26,7 +26,7 @@ fn outcome_of(
     giop: &Giop,
     alloc: Global,
     wanted: &Wanted<'_>,
-    answer: &Answer,
+    answer: &ReplyBody,
 ) -> Result<Option<Outcome>, CallFault>
     requires { IsNamed wanted.now.table.now.model.names wanted.now.reply }
     ensures { IsOutcomeIn (called_of wanted.now) (answer_of answer.now) result }

@@ -4,7 +4,7 @@ ghost use Rattle.std.specs.Prelude.{◌≡◌, ◌≤◌, ◌==◌, IfSome, drop
 ghost use Rattle.std.specs.Char.{is_ascii_digit};
 ghost use Rattle.std.specs.List.{before_first, position_or_len};
 ghost use Rattle.diagnostic_views.specs.MarkerViews.{marker_parts};
-ghost use Rattle.diagnostic_views.specs.Markers.{behind, file_in, is_blank, marker_of, number_of, numbered, past_blanks, past_word};
+ghost use Rattle.diagnostic_views.specs.Markers.{after_octet, file_in, is_blank, marker_of, number_of, numbered, past_blanks, past_word};
 
 /// What a marker says of the line behind it.
 #[derive(Clone, Copy)]
@@ -38,9 +38,9 @@ fn past_blanks(octets: &[u8]) -> &[u8]
 }
 
 /// What stands behind the octet, which isn't zero and with which the octets have to begin.
-fn behind(octet: u8, octets: &[u8]) -> Option<&[u8]>
+fn after_octet(octet: u8, octets: &[u8]) -> Option<&[u8]>
     requires { 1 ≤ octet }
-    ensures { option_map (λ rest. rest.now) result ≡ behind octet octets.now }
+    ensures { option_map (λ rest. rest.now) result ≡ after_octet octet octets.now }
 {
     match octets {
         [first, rest @ ..] if *first == octet => Some(rest),
@@ -104,7 +104,7 @@ fn before_quote(octets: &[u8]) -> &[u8]
 fn file_in(octets: &[u8]) -> Option<&[u8]>
     ensures { option_map (λ name. name.now) result ≡ file_in octets.now }
 {
-    match behind(b'"', octets) {
+    match after_octet(b'"', octets) {
         Some(name) => Some(before_quote(name)),
         None => None,
     }
@@ -130,7 +130,7 @@ pub fn read_marker(line: &[u8]) -> Option<Marker<'_>>
     ensures value { option_map marker_parts result ≡ marker_of line.now }
     ensures within { IfSome result (λ marker. marker.line ≤ 1000000000) }
 {
-    match behind(b'#', past_blanks(line)) {
+    match after_octet(b'#', past_blanks(line)) {
         Some(rest) => numbered(past_word(past_blanks(rest))),
         None => None,
     }

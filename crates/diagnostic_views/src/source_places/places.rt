@@ -11,7 +11,7 @@ use crate::source_places::marker::read_marker;
 /// A line of a file, counted from 1. The file that was preprocessed has no name until a marker names
 /// one.
 #[derive(Clone, Copy)]
-pub struct Place<'a> {
+pub struct SourceLine<'a> {
     /// The octets of the file's name.
     pub file: Option<&'a [u8]>,
     pub line: u64,
@@ -40,17 +40,17 @@ fn cut_line(octets: &[u8]) -> Option<(&[u8], &[u8])>
 }
 
 /// The place of the line behind this one.
-fn following<'a>(place: Place<'a>, line: &'a [u8]) -> Place<'a>
+fn following<'a>(place: SourceLine<'a>, line: &'a [u8]) -> SourceLine<'a>
     requires { place.line ≤ 2 ^ 63 + 1000000000 }
     ensures value { place_parts result ≡ following (place_parts place.entry) (marker_of line.now) }
     ensures within { (result.line ≤ 1000000000) ⊎ (result.line ≤ place.entry.line + 1) }
 {
     match read_marker(line) {
-        Some(marker) => Place {
+        Some(marker) => SourceLine {
             file: marker.file.or(place.file),
             line: marker.line,
         },
-        None => Place {
+        None => SourceLine {
             file: place.file,
             line: place.line + 1,
         },
@@ -58,11 +58,11 @@ fn following<'a>(place: Place<'a>, line: &'a [u8]) -> Place<'a>
 }
 
 /// The place of an octet: the line in which it stands, as the markers before it say.
-pub fn place_at(source: &[u8], octet: usize) -> Place<'_>
+pub fn place_at(source: &[u8], octet: usize) -> SourceLine<'_>
     requires { octet ≤ length source.now }
     ensures { place_parts result ≡ place_of source.now octet }
 {
-    let mut place = Place {
+    let mut place = SourceLine {
         file: None,
         line: 1,
     };

@@ -19,7 +19,7 @@ pub type Body<'t> = (&'t Accepted, u32, &'t [u8]);
 
 impl<'w> Writing<'w> {
     /// What stands behind a header that ends at a place: so many zeros, and these octets.
-    pub(crate) fn behind(
+    pub(crate) fn after_header(
         &self,
         stop: usize,
         body: Option<Body<'_>>,

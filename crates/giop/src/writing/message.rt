@@ -150,7 +150,7 @@ impl<'w> Writing<'w> {
                 _ => return Err(GiopFault::BadHead),
             },
         };
-        let (gap, body) = match self.behind(HEAD_LEN + header.as_slice().len(), body) {
+        let (gap, body) = match self.after_header(HEAD_LEN + header.as_slice().len(), body) {
             Ok(behind) => behind,
             Err(fault) => return Err(fault),
         };

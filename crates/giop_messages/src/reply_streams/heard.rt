@@ -98,7 +98,7 @@ fn remove_front(octets: &mut Vec<u8>, n: usize)
 }
 
 /// A stream so many octets of which are seen to.
-fn behind(run: Option<SentReply>, mut octets: Vec<u8>, seen: usize) -> ReplyStream
+fn stream_after(run: Option<SentReply>, mut octets: Vec<u8>, seen: usize) -> ReplyStream
     requires { seen ≤ length octets.items }
     ensures run { result.run ≡ run }
     ensures rest { result.rest.items ≡ drop seen octets.items }
@@ -122,7 +122,7 @@ fn hear_all(
     let mut at = 0;
     while at < octets.len() {
         match take_turn(alloc, id, held, octets.as_slice().split_at(at).1)? {
-            Turn::Waits(run) => return Ok(Heard::Waits(behind(run, octets, at))),
+            Turn::Waits(run) => return Ok(Heard::Waits(stream_after(run, octets, at))),
             Turn::Passes { run, len } => {
                 held = run;
                 at += len;
@@ -137,5 +137,5 @@ fn hear_all(
             Turn::Refuses => return Ok(Heard::Refuses),
         }
     }
-    Ok(Heard::Waits(behind(held, octets, at)))
+    Ok(Heard::Waits(stream_after(held, octets, at)))
 }

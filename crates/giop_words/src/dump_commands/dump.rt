@@ -7,7 +7,7 @@ ghost use Rattle.giop_words.specs.Faults.{IsOutput};
 use crate::dump_commands::capture::{Capture, CaptureNames, open_capture};
 use crate::dump_commands::fault::CaptureFault;
 use crate::dump_commands::files::CaptureFiles;
-use crate::{TableWords, Types};
+use crate::{TableWords, MessageTypes};
 use giop::Giop;
 use giop_dumps::captures::CaptureForm;
 use giop_dumps::{CutShort, Patience, dump_octets, dump_text};
@@ -49,8 +49,8 @@ impl Own {
     }
 
     /// With the types of a table.
-    fn with<'a>(&'a self, table: &'a Accepted, names: &'a PartNames) -> Types<'a> {
-        Types {
+    fn with<'a>(&'a self, table: &'a Accepted, names: &'a PartNames) -> MessageTypes<'a> {
+        MessageTypes {
             giop: &self.giop,
             table,
             names,
@@ -60,9 +60,9 @@ impl Own {
 }
 
 /// Tells a capture by types.
-fn told<R: Clock + AllocGlobal, T: Read + Drop, O: Write>(
+fn tell_all<R: Clock + AllocGlobal, T: Read + Drop, O: Write>(
     rt: &R,
-    types: Types<'_>,
+    types: MessageTypes<'_>,
     capture: Capture<T>,
     out: &mut O,
 ) -> Result<(), CutShort>
@@ -106,7 +106,7 @@ pub fn dump_capture<'a, R: CaptureFiles + Clock + AllocGlobal, O: Write>(
         Ok(own) => own,
         Err(_) => return Err(CaptureFault::NoMemory),
     };
-    match told(rt, own.with(table, names), capture, out) {
+    match tell_all(rt, own.with(table, names), capture, out) {
         Ok(()) => Ok(()),
         Err(cut) => Err(CaptureFault::of(cut)),
     }

@@ -8,7 +8,7 @@ use Rattle.idlc_c.proofs.idlc_decode_text.Goals as goal
 
 pub returns-clause-refused : goal.returns-clause-refused
 returns-clause-refused c many =
-    let none = none_of _ _ _ c.decode_text-answer.result (subst (λ (n : ℕ). 60 ≤ n) c.told.ensures.number many)
+    let none = none_of _ _ _ c.decode_text-answer.result (subst (λ (n : ℕ). 60 ≤ n) c.status_of.ensures.number many)
     c.decode_text-answer.ensures.refused in
     let there : c.args.handle.now.table ≡ Some c.in-Some.held.value.table = search rules in
     let in_order = subst (λ (o : Order). HasNoTape c.args.node o c.args.pos c.args.octets.now c.loaded.result.now.table)

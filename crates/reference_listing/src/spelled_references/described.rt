@@ -27,7 +27,7 @@ fn octets_in(alloc: Global, text: &str, ior: &Ior) -> Result<Vec<u8>, AllocError
 }
 
 /// The lines of a reference in digits.
-fn told(types: &GiopTypes, alloc: Global, text: &str, ior: &Ior) -> Result<String, AllocError>
+fn described(types: &GiopTypes, alloc: Global, text: &str, ior: &Ior) -> Result<String, AllocError>
     requires { Spells text.now (reference_of ior.now) }
     ensures { IfOk result (λ lines. IsToldOf text.now (reference_of ior.now) (string_bytes lines)) }
 {
@@ -46,7 +46,7 @@ fn told_of_url(types: &GiopTypes, alloc: Global, ior: &Ior) -> Result<String, Al
 {
     match ior_to_text(types, alloc, ior) {
         Ok(text) => {
-            let rest = told(types, alloc, text.as_str(), ior)?;
+            let rest = described(types, alloc, text.as_str(), ior)?;
             format!(in alloc; "{text}\n{rest}")
         }
         Err(_) => Err(AllocError),
@@ -75,6 +75,6 @@ pub fn described_reference(
     if is_url(text) {
         Ok(told_of_url(types, alloc, &ior)?)
     } else {
-        Ok(told(types, alloc, text, &ior)?)
+        Ok(described(types, alloc, text, &ior)?)
     }
 }

@@ -3,7 +3,7 @@ use Rattle.std.specs.Prelude.{ℕ, zero, suc, Bool, eqb, ◌<◌, ◌≡◌, Lis
 use Rattle.std.specs.List.{list_any}
 use Rattle.type_graph.specs.declared.node.Node.{Node}
 use Rattle.type_graph.specs.Value.{node_at}
-use Rattle.routine_checker.specs.declared.counts.Made.{Made}
+use Rattle.routine_checker.specs.declared.counts.CountedNode.{CountedNode}
 use Rattle.routine_checker.specs.declared.counts.Entries.{Entries}
 use Rattle.routine_checker.specs.Taking.{parts_of, taken}
 use Rattle.routine_checker.specs.inner.Kinds.{is_piece_of}
@@ -24,7 +24,7 @@ pieces_in (suc levels) wanted graph number =
 
 -- ---- as the code keeps them
 
-abbrev pub IsMade : List Node → Made → Type 0
+abbrev pub IsMade : List Node → CountedNode → Type 0
 IsMade graph made = 0 < made.n → pieces_in 64 (is_piece_of made.piece graph) graph made.number ≡ made.n
 
 abbrev pub AreEntries : List Node → Entries → Type 0

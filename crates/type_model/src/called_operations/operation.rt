@@ -55,7 +55,7 @@ fn stripped<'w>(prefix: &[u8], word: &'w [u8]) -> Option<&'w [u8]>
 }
 
 /// The word without the name of an interface and `::`.
-fn behind<'w>(interface: &Name, word: &'w [u8]) -> Option<&'w [u8]>
+fn after_interface<'w>(interface: &Name, word: &'w [u8]) -> Option<&'w [u8]>
     ensures { option_map (λ name. name.now) result ≡ behind_name interface.now word.now }
 {
     match stripped(interface.as_str().as_bytes(), word) {
@@ -77,7 +77,7 @@ fn named_by_id(model: &Model, id: &[u8], word: &[u8], interface: &Interface) -> 
 fn named_in_full(model: &Model, word: &[u8], interface: &Interface) -> Option<u32>
     ensures { result ≡ in_full model.now word.now interface.now }
 {
-    match behind(&interface.name, word) {
+    match after_interface(&interface.name, word) {
         Some(name) => first_named(model, name, interface.operations.as_slice()),
         None => None,
     }

@@ -18,6 +18,6 @@ returns-clause-described c = record {
   reference = reference_of c.in-Ok.ior;
   spells = c.in-Ok.ensures.found;
   told = subst
-      (λ (b : Bool). IsToldBy b c.args.text.now (reference_of c.in-Ok.ior) (string_bytes c.in_ok-told.field-0))
-      (sym (sym c.is_url.ensures ∙ c.if-is_url.false)) c.in_ok-told.ensures;
+      (λ (b : Bool). IsToldBy b c.args.text.now (reference_of c.in-Ok.ior) (string_bytes c.in_ok-described.field-0))
+      (sym (sym c.is_url.ensures ∙ c.if-is_url.false)) c.in_ok-described.ensures;
 }

@@ -14,20 +14,20 @@ pub returns-in_default-clause-refused : goal.returns-in_default-clause-refused
 returns-in_default-clause-refused c =
     not_for_memory c.in-Err.fault _ c.in_default.not-NoMemory c.in-Err.ensures.refused
 
-pub returns-in-Err-behind-clause-refused : goal.returns-in-Err-behind-clause-refused
-returns-in-Err-behind-clause-refused c =
+pub returns-in-Err-after_header-clause-refused : goal.returns-in-Err-after_header-clause-refused
+returns-in-Err-after_header-clause-refused c =
     let w = c.args.self.now in
-    without_body c.in-Err-behind.fault w.order w.kind w.node c.args.tape.now (given_by c.args.body)
+    without_body c.in-Err-after_header.fault w.order w.kind w.node c.args.tape.now (given_by c.args.body)
     c.as_slice.result.now (header w.order w.node c.args.tape.now c.in-Ok.header.items c.as_slice.result.now
-    c.as_slice.ensures.value c.in-Ok.ensures.found) c.in-Err-behind.ensures.refused
+    c.as_slice.ensures.value c.in-Ok.ensures.found) c.in-Err-after_header.ensures.refused
 
 pub returns-in_default-size_of-clause-refused : goal.returns-in_default-size_of-clause-refused
 returns-in_default-size_of-clause-refused c =
     let w = c.args.self.now in
     too_long w.order w.kind w.node c.args.tape.now (given_by c.args.body) c.as_slice.result.now
-    c.in-Ok-behind.behind.1.items c.in-Ok-behind.behind.0
+    c.in-Ok-after_header.behind.1.items c.in-Ok-after_header.behind.0
     (header w.order w.node c.args.tape.now c.in-Ok.header.items c.as_slice.result.now
-    c.as_slice.ensures.value c.in-Ok.ensures.found) c.in-Ok-behind.ensures.body
+    c.as_slice.ensures.value c.in-Ok.ensures.found) c.in-Ok-after_header.ensures.body
     (omega (
       arith,
       c.in_default-size_of.ensures.refused,

@@ -1,5 +1,5 @@
 use Rattle.std.proofs.Common.{arith, refl}
-use Rattle.giop_words.proofs.frames.Types.frames.Goals as goal
+use Rattle.giop_words.proofs.frames.MessageTypes.frames.Goals as goal
 
 pub own-requires : goal.own-requires
 own-requires c = (9, omega arith, refl)

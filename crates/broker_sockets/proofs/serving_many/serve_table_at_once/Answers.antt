@@ -1,7 +1,7 @@
 use Rattle.std.proofs.Common.{◌*◌, ℕ, OnOk, subst}
 use Rattle.broker_sockets.specs.Serving.{IsDoneTogether}
 use Rattle.broker_sockets.proofs.Sessions.{faults_have_causes, has_object, none_of_object, together_on_ok}
-use Rattle.broker_sockets.proofs.serving_many.serve_many_at.Goals as goal
+use Rattle.broker_sockets.proofs.serving_many.serve_table_at_once.Goals as goal
 
 pub returns-clause-done : goal.returns-clause-done
 returns-clause-done g c =

@@ -5,7 +5,7 @@ use Rattle.reference_texts.specs.Manners.{manner_of}
 use Rattle.reference_texts.specs.References.{reference_of, reference_tree}
 use Rattle.reference_texts.proofs.TextLaws.{spelled_there}
 use Rattle.reference_listing.proofs.Manners.{so_of}
-use Rattle.reference_listing.proofs.spelled_references.described.told.Goals as goal
+use Rattle.reference_listing.proofs.spelled_references.described.described.Goals as goal
 
 pub returns-in-Ok : goal.returns-in-Ok
 returns-in-Ok c =

@@ -3,7 +3,7 @@ use Rattle.giop_messages.specs.declared.fault.GiopFault.TheVariants.{BadBody}
 use Rattle.giop.specs.Made.{given_by}
 use Rattle.giop.proofs.Bodies.{refused_body}
 use Rattle.program_runner.proofs.Refusals.{not_for_memory}
-use Rattle.giop.proofs.writing.message.Writing.behind.Goals as goal
+use Rattle.giop.proofs.writing.message.Writing.after_header.Goals as goal
 
 pub returns-in_default-fault-clause-refused : goal.returns-in_default-fault-clause-refused
 returns-in_default-fault-clause-refused c =

@@ -1,5 +1,5 @@
 use Rattle.broker_sockets.proofs.Sessions.{done_on_ok, faults_have_causes, has_object, none_of_object}
-use Rattle.broker_sockets.proofs.serving.serve_at.Goals as goal
+use Rattle.broker_sockets.proofs.serving.serve_table.Goals as goal
 
 pub returns-clause-done : goal.returns-clause-done
 returns-clause-done g c =
