@@ -270,7 +270,7 @@ fn judge<S: Servant, L: PolledListener>(
 
 /// Serves the connection as far as it goes at once; it is over too where it passed a limit, unless
 /// that is 0.
-pub(crate) fn take_slot_turn<S: Servant, L: PolledListener>(
+pub(crate) fn slot_turn<S: Servant, L: PolledListener>(
     broker: &mut Broker<S>,
     listener: &mut L,
     slot: &mut Slot<L::Connection>,

@@ -11,7 +11,7 @@ ghost use Rattle.broker_loop.specs.inner.Going.{GoesOn, IsUnderWay, WereAsked, p
 ghost use Rattle.broker_loop.specs.inner.Turns.{IsHandedBack};
 
 use crate::listener::{End, PolledListener};
-use crate::slot::{Course, Slot, take_slot_turn};
+use crate::slot::{Course, Slot, slot_turn};
 use iiop_broker::{Broker, Event, Servant};
 
 /// Lets go of a connection.
@@ -75,7 +75,7 @@ fn sweep_slot<S: Servant, L: PolledListener>(
     ensures same { broker.new.served ≡ broker.old.served }
     ensures as_long { length buffer.new ≡ length buffer.old }
 {
-    let course = take_slot_turn(broker, listener, &mut slots[at], buffer, idle);
+    let course = slot_turn(broker, listener, &mut slots[at], buffer, idle);
     if let Course::Over(end) = course {
         let slot = slots.remove(at);
         let_go(broker, listener, slot, end);

@@ -3,7 +3,7 @@
 ghost use Rattle.reference_texts.specs.References.{reference_of};
 ghost use Rattle.call_commands.specs.Calls.{IsTextCalled};
 
-use crate::ask::{TextCall, CallTypes};
+use crate::ask::{CallTypes, TextCall};
 use crate::choice::choose;
 use crate::ending::Ending;
 use crate::fault::CallRefusal;

@@ -9,7 +9,7 @@ mod fault;
 pub mod followed_calls;
 mod sending;
 
-pub use ask::{TextCall, CallTypes};
+pub use ask::{CallTypes, TextCall};
 pub use command::call_text;
 pub use ending::{Ending, ExceptionLine};
 pub use fault::CallRefusal;

@@ -7,7 +7,7 @@ ghost use Rattle.call_commands.specs.Calls.{IsCarriedOut, IsEnding, IsLastOutcom
 ghost use Rattle.command_texts.specs.Bodies.{IsTapeOfText};
 ghost use Rattle.call_commands.specs.Choices.{choice_of};
 
-use crate::ask::{TextCall, CallTypes};
+use crate::ask::{CallTypes, TextCall};
 use crate::choice::Choice;
 use crate::ending::Ending;
 use crate::fault::CallRefusal;

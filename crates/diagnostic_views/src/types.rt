@@ -82,7 +82,10 @@ fn oneway_sentence(
                 "a oneway operation can't have the parameter '{name}', which isn't in"
             )
         }
-        FirstAnswer::Exceptions => String::from_str(alloc, "a oneway operation can't raise exceptions"),
+        FirstAnswer::Exceptions => String::from_str(
+            alloc,
+            "a oneway operation can't raise exceptions",
+        ),
     }
 }
 

@@ -75,7 +75,11 @@ fn forward_text(types: &MessageTypes<'_>, alloc: Global, ior: &Ior) -> Result<St
 }
 
 /// What becomes of a call, as text.
-fn outcome_text(types: &MessageTypes<'_>, alloc: Global, outcome: Outcome) -> Result<String, AllocError>
+fn outcome_text(
+    types: &MessageTypes<'_>,
+    alloc: Global,
+    outcome: Outcome,
+) -> Result<String, AllocError>
     ensures { IfOk result (λ text. Shows outcome (string_bytes text)) }
 {
     match outcome {

@@ -8,7 +8,7 @@ use crate::fault::Fault;
 use crate::listener::ErrorReader;
 use crate::times::Times;
 use crate::told::named_fault;
-use call_commands::{CallRefusal, Ending, TextCall, CallTypes, call_text};
+use call_commands::{CallRefusal, CallTypes, Ending, TextCall, call_text};
 use call_sockets::Dialler;
 use command_files::load;
 use command_tables::{WholeFiles, text_of};

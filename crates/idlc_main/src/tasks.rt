@@ -13,7 +13,7 @@ ghost use Rattle.idlc_main.specs.Tables.{Answers, AnswersBy, IsRefusalBy, Refuse
 use crate::descriptions::described;
 use crate::fault::Fault;
 use crate::listener::ErrorReader;
-use crate::told::{TaskOutput, Notice, named_fault, source_fault};
+use crate::told::{Notice, TaskOutput, named_fault, source_fault};
 use command_files::load;
 use command_tables::{
     Refusal, WholeFiles, input_of, read_file, reference_line, upgrade, write_file,
@@ -98,7 +98,10 @@ fn upgraded<'a, R: WholeFiles + AllocGlobal>(
 }
 
 /// The texts of the refusals that a word means.
-fn explained<'a, R: WholeFiles + AllocGlobal>(rt: &R, word: &'a str) -> Result<TaskOutput, Fault<'a>>
+fn explained<'a, R: WholeFiles + AllocGlobal>(
+    rt: &R,
+    word: &'a str,
+) -> Result<TaskOutput, Fault<'a>>
     ensures answers { IsAnswer (R.reads rt.now) (Explanation (Some word.now)) result }
     ensures told { IfErr result IsTold }
 {

@@ -6,7 +6,7 @@ ghost use Rattle.lowered_operations.specs.Oneway.{answer_of, oneway_test, param_
 
 use idl_tree::definitions::{Direction, Operation, Param};
 use idl_tree::names::Listed;
-use lowered_types::{FirstAnswer, BuildFault, TypeFault};
+use lowered_types::{BuildFault, FirstAnswer, TypeFault};
 
 /// The first parameter that isn't an `in` one.
 fn param_answer(params: &Listed<Param<'_>>) -> Option<FirstAnswer>

@@ -15,7 +15,7 @@ mod simple;
 mod table;
 mod types;
 
-pub use fault::{FirstAnswer, BuildFault, LabelWorth, TypeFault, TypeKind};
+pub use fault::{BuildFault, FirstAnswer, LabelWorth, TypeFault, TypeKind};
 pub use members::MemberList;
 pub use place::Place;
 pub use readings::{declared_entry, resolved};

@@ -6,7 +6,7 @@ ghost use Rattle.giop.specs.Made.{given_by};
 ghost use Rattle.call_client.specs.Talks.{IsCalledAt, asking};
 
 use crate::object_calls::dial::{Dial, DialFault};
-use crate::{ReplyBody, CallFault, Request, call};
+use crate::{CallFault, ReplyBody, Request, call};
 use giop::{Body, Giop};
 use giop_messages::GiopFault;
 use std::alloc::Global;

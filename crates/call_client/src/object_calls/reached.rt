@@ -14,7 +14,7 @@ ghost use Rattle.call_client.specs.Talks.{IsCalledBy, IsCalledTo, asking, misses
 use crate::object_calls::calling::call_at;
 use crate::object_calls::dial::Dial;
 use crate::object_calls::form::Form;
-use crate::{ReplyBody, CallFault, Request};
+use crate::{CallFault, ReplyBody, Request};
 use giop::{Addressed, Body, Giop, Ior, Tagged};
 use reference_listing::{IiopProfile, ListedProfile};
 use std::alloc::Global;

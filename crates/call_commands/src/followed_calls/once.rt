@@ -13,7 +13,7 @@ ghost use Rattle.call_commands.specs.Wanted.{called_of};
 
 use crate::followed_calls::wanted::Wanted;
 use call_client::object_calls::{Dial, Form, call_by};
-use call_client::{ReplyBody, CallFault, Request};
+use call_client::{CallFault, ReplyBody, Request};
 use command_texts::call_texts::{Outcome, read_outcome};
 use giop::{Body, Giop, Reply};
 use giop_messages::GiopFault;

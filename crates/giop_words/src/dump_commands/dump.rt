@@ -7,7 +7,7 @@ ghost use Rattle.giop_words.specs.Faults.{IsOutput};
 use crate::dump_commands::capture::{Capture, CaptureNames, open_capture};
 use crate::dump_commands::fault::CaptureFault;
 use crate::dump_commands::files::CaptureFiles;
-use crate::{TableWords, MessageTypes};
+use crate::{MessageTypes, TableWords};
 use giop::Giop;
 use giop_dumps::captures::CaptureForm;
 use giop_dumps::{CutShort, Patience, dump_octets, dump_text};

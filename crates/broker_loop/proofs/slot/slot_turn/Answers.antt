@@ -4,7 +4,7 @@ use Rattle.broker_loop.specs.declared.slot.Course.{Course}
 use Rattle.broker_loop.specs.declared.slot.Course.TheVariants.{Over}
 use Rattle.broker_loop.specs.inner.Going.{IsOn, stays}
 use Rattle.broker_loop.proofs.Turns.{judged_again, judged_asked, judged_on, over_on, unlimited_on}
-use Rattle.broker_loop.proofs.slot.take_slot_turn.Goals as goal
+use Rattle.broker_loop.proofs.slot.slot_turn.Goals as goal
 
 pub returns-then-idle-eq0-clause-on : goal.returns-then-idle-eq0-clause-on
 returns-then-idle-eq0-clause-on g c = λ before came ended front back going in_time.
