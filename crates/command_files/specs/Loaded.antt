@@ -7,6 +7,7 @@ use Rattle.table_file.specs.Table.{TableParts}
 use Rattle.table_file.specs.TableSpelling.{Spells, SpellsOld}
 use Rattle.command_tables.specs.Files.{RefusesFile}
 use Rattle.command_tables.specs.Named.{Passing}
+use Rattle.command_tables.specs.Reading.{HasMore}
 use Rattle.command_tables.specs.Sample.{sample_table}
 use Rattle.command_tables.specs.declared.refusal.Refusal.TheVariants as refusals
 use Rattle.command_texts.specs.Lines.{Labels}
@@ -60,9 +61,9 @@ pub record IsRefusedFile (Reads : Passing) (name : List ℕ) (fault : NamedFault
   pub read : Reads name octets
   pub refused : IsNotHeld octets fault
 
--- a file can't be read, or holds no table; of the sample want of memory alone
+-- a file can't be read, has more octets than a file may have, or holds no table; of the sample want of memory alone
 abbrev pub IsNotLoaded : Passing → List ℕ → NamedFault → Type 0
 IsNotLoaded Reads name (Refused (refusals.Unread file)) = (name ≢ codes "builtin") × (file.now ≡ name)
-IsNotLoaded Reads name (Refused refusals.TooLong) = name ≢ codes "builtin"
+IsNotLoaded Reads name (Refused refusals.TooLong) = (name ≢ codes "builtin") × HasMore (Reads name) 16777216
 IsNotLoaded Reads name (Refused refusals.NoMemory) = Unit {0}
 IsNotLoaded Reads name fault = IsRefusedFile Reads name fault

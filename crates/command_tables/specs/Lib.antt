@@ -3,6 +3,7 @@ pub mod Lines
 pub mod Answer
 pub mod Refusal
 pub mod Files
+pub mod Reading
 pub mod References
 pub mod NoReference
 pub mod Named

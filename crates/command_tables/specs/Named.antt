@@ -2,6 +2,7 @@
 use Rattle.std.specs.Prelude.{◌≡◌, ◌≢◌, ◌⊎◌, ℕ, List, codes}
 use Rattle.position_checker.specs.Acceptance.{IsRight}
 use Rattle.command_tables.specs.Files.{RefusesFile, RefusesTable}
+use Rattle.command_tables.specs.Reading.{HasMore}
 use Rattle.position_checker.specs.Summary.{accepted}
 use Rattle.command_tables.specs.declared.refusal.Refusal.{Refusal}
 use Rattle.command_tables.specs.declared.refusal.Refusal.TheVariants.{Unread, Unwritten, NoTable, NotRight, TooLong, NoMemory}
@@ -40,12 +41,12 @@ pub record IsUpgraded (Reads Takes : Passing) (name output line : List ℕ) : Ty
 
 -- ---- refusals
 
--- the file can't be read
-abbrev pub IsUnread : List ℕ → Refusal → Type 0
-IsUnread name (Unread file) = file.now ≡ name
-IsUnread name TooLong = Unit {0}
-IsUnread name NoMemory = Unit {0}
-IsUnread name refusal = ⊥
+-- the file can't be read, or has more octets than a file may have
+abbrev pub IsUnread : Passing → List ℕ → Refusal → Type 0
+IsUnread Reads name (Unread file) = file.now ≡ name
+IsUnread Reads name TooLong = HasMore (Reads name) 16777216
+IsUnread Reads name NoMemory = Unit {0}
+IsUnread Reads name refusal = ⊥
 
 -- the file can't be written
 abbrev pub IsUnwritten : List ℕ → Refusal → Type 0
@@ -65,7 +66,7 @@ abbrev pub IsNoTable : Passing → List ℕ → Refusal → Type 0
 IsNoTable Reads name (Unread file) = (name ≢ codes "builtin") × (file.now ≡ name)
 IsNoTable Reads name (NoTable fault) = IsRefusedFile Reads name (NoTable fault)
 IsNoTable Reads name (NotRight fault) = IsRefusedFile Reads name (NotRight fault)
-IsNoTable Reads name TooLong = name ≢ codes "builtin"
+IsNoTable Reads name TooLong = (name ≢ codes "builtin") × HasMore (Reads name) 16777216
 IsNoTable Reads name NoMemory = Unit {0}
 IsNoTable Reads name refusal = ⊥
 

@@ -35,7 +35,7 @@ IsInput Reads form way word input = input ≡ word
 -- the file can't be read, or is no text
 abbrev pub IsNoTextIn : Passing → List ℕ → Refusal → Type 0
 IsNoTextIn Reads file (Unsaid fault) = (octets : List ℕ) × Reads file octets × (IsUtf8 octets → ⊥)
-IsNoTextIn Reads file refusal = IsUnread file refusal
+IsNoTextIn Reads file refusal = IsUnread Reads file refusal
 
 -- the word for a text stands for none
 pub record HasNoInput (Reads : Passing) (word : List ℕ) (refusal : Refusal) : Type 0 where

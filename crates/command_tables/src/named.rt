@@ -24,7 +24,7 @@ pub const SAMPLE: &str = "builtin";
 pub fn read_file<'a, R: WholeFiles>(rt: &R, file: &'a str) -> Result<Vec<u8>, Refusal<'a>>
     ensures read { IfOk result (λ octets. R.reads rt.now file.now octets.items) }
     ensures within { IfOk result (λ octets. length octets.items ≤ 16777216) }
-    ensures refused { IfErr result (IsUnread file.now) }
+    ensures refused { IfErr result (IsUnread (R.reads rt.now) file.now) }
 {
     match rt.octets_in(file, MAX_LEN) {
         Ok(octets) => Ok(octets),

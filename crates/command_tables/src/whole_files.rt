@@ -1,6 +1,7 @@
 //! Files read and written whole, as a caller sees them.
 
-ghost use Rattle.std.specs.Prelude.{ℕ, ◌≤◌, List, length, IfOk, OnOk};
+ghost use Rattle.std.specs.Prelude.{ℕ, ◌≤◌, List, length, IfErr, IfOk, OnOk};
+ghost use Rattle.command_tables.specs.Reading.{IsReadFault};
 
 use crate::whole_read::{ReadFault, read_whole};
 use crate::whole_write::{WriteFault, write_whole};
@@ -10,7 +11,7 @@ use std::fs::Files;
 /// generic over it can't make them up: octets that a file was read as came from there, and octets
 /// that it was written as went there, all of them.
 pub trait WholeFiles {
-    /// The file of the name was read as the octets.
+    /// The file of the name was read as the octets: all that it has, or more than were wanted of it.
     ghost reads: { Self → List ℕ → List ℕ → Type 0 };
 
     /// The file of the name was written as the octets.
@@ -22,7 +23,8 @@ pub trait WholeFiles {
     /// `Unread` where the file can't be opened or read, `TooLong` where it has more octets.
     fn octets_in(&self, path: &str, limit: u32) -> Result<Vec<u8>, ReadFault>
         ensures within { IfOk result (λ octets. length octets.items ≤ limit) }
-        ensures read { IfOk result (λ octets. reads self.now path.now octets.items) };
+        ensures read { IfOk result (λ octets. reads self.now path.now octets.items) }
+        ensures refused { IfErr result (IsReadFault (reads self.now path.now) limit) };
 
     /// Writes the octets to a file, all of them where it answers Ok.
     ///

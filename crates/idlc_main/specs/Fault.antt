@@ -1,5 +1,5 @@
 -- The status with which the program ends on a fault.
-use Rattle.std.specs.Prelude.{◌≡◌, ℕ}
+use Rattle.std.specs.Prelude.{◌≡◌, ◌≢◌, ℕ}
 use Rattle.command_words.specs.declared.mistake.Mistake.TheVariants as mistakes
 use Rattle.idl_compiler.specs.declared.fault.CompileFault.{CompileFault}
 use Rattle.idl_compiler.specs.declared.fault.CompileFault.TheVariants as sources
@@ -42,7 +42,7 @@ status_of fault = 1
 
 -- the fault of an IDL file, with or without what else is known
 abbrev pub IsOfSource : CompileFault → Fault → Type 0
-IsOfSource refusal (Explained same view) = same ≡ refusal
+IsOfSource refusal (Explained same view) = (same ≡ refusal) × (refusal ≢ sources.NoMemory)
 IsOfSource refusal (NotCompiled same) = same ≡ refusal
 IsOfSource refusal fault = ⊥
 

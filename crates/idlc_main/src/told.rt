@@ -1,7 +1,8 @@
 //! What a run tells when it did what was asked for, and of the fault of an IDL file.
 
-ghost use Rattle.std.specs.Prelude.{◌≡◌};
+ghost use Rattle.std.specs.Prelude.{◌≡◌, ◌≢◌, false};
 ghost use Rattle.command_files.specs.Loaded.{IsNotLoaded};
+ghost use Rattle.idl_compiler.specs.declared.fault.CompileFault.TheVariants.{NoMemory};
 ghost use Rattle.idlc_main.specs.Fault.{IsOfSource, IsTold};
 ghost use Rattle.idlc_main.specs.Tables.{IsUnloaded};
 
@@ -45,6 +46,12 @@ impl TaskOutput {
     }
 }
 
+fn wants_memory(fault: &CompileFault) -> bool
+    ensures { result ≡ false → fault.now ≢ NoMemory }
+{
+    matches!(fault, CompileFault::NoMemory)
+}
+
 /// The fault of an IDL file; for a listener who wants it with what else is known, where there is
 /// memory for that.
 pub fn source_fault<'a>(
@@ -57,6 +64,7 @@ pub fn source_fault<'a>(
     ensures { IsOfSource refusal result }
 {
     if let Some(look) = listener.look()
+        && !wants_memory(&refusal)
         && let Ok(Some(view)) = view(alloc, look, name, source, &refusal)
     {
         return Fault::Explained { refusal, view };
