@@ -9,7 +9,7 @@ use Rattle.type_graph.specs.declared.width.Order.TheVariants.{Big, Little}
 use Rattle.command_words.specs.Ask.{CallAsk, call_ask_of}
 use Rattle.command_words.specs.declared.task.CallTask.{CallTask}
 use Rattle.command_words.specs.Words.{TellsCall, TellsExplain, TellsOption, TellsOrder, word_of, word_of_flag}
-use Rattle.command_words.proofs.FoundRequests.{different, order_of, same_some}
+use Rattle.command_words.proofs.FoundRequests.{order_of, same_some}
 
 module _ (found : Found) where
   -- the number is that of the option, or that of none

@@ -1,5 +1,5 @@
 -- What was found for the words of a command tells what is asked for.
-use Rattle.std.proofs.Common.{◌≡◌, ◌∙◌, ◌<◌, ◌^◌, ◌↔◌, ℕ, Option, Some, None, IsSome, IsSomeAnd, IfSome, codes, length, ap, sym, refl, arith, slice_index, true, false}
+use Rattle.std.proofs.Common.{◌≡◌, ◌∙◌, ◌<◌, ◌^◌, ◌↔◌, ℕ, Option, Some, None, IsSome, IsSomeAnd, IfSome, codes, length, ap, sym, refl, arith, true, false}
 use Rattle.std.specs.Str.Parse.{IsNumeral, digits_value, without_leading_plus}
 use Rattle.clap.specs.Words.{Text, first_of, first_value, one_text, rows_of}
 use Rattle.clap.specs.declared.parser.matches.Found.{Found}
@@ -7,8 +7,6 @@ use Rattle.clap.proofs.WalkLemmas.{first_value-rows, one_text-rows}
 use Rattle.type_graph.specs.declared.width.Order.{Order}
 use Rattle.type_graph.specs.declared.width.Order.TheVariants.{Big, Little}
 use Rattle.command_words.specs.declared.requests.value.Way.{Way}
-use Rattle.command_words.specs.declared.requests.value.Way.TheVariants.{Encode, Decode}
-use Rattle.command_words.specs.Way.{name_of}
 use Rattle.command_words.specs.declared.task.ValueTask.{ValueTask}
 use Rattle.command_words.specs.Ask.{Value, ValueAsk, value_ask_of}
 use Rattle.command_words.specs.declared.requests.value.Form.{Form}
@@ -20,7 +18,7 @@ same_some found a b first second = let both : Some a ≡ Some b = sym first ∙ 
 pub some_since : (found : Option Text) (text : Text) → found ≡ Some text → IsSome found
 some_since found text is = rw is refl
 
-pub different : (a b : ℕ) → a ≡ b → (a ≡ b → ⊥) → ⊥
+different : (a b : ℕ) → a ≡ b → (a ≡ b → ⊥) → ⊥
 different a b same other = other same
 
 pub order_of : (found : Option Text) (a b : Order) → found ≡ Some (word_of b) → (a ≡ Little)
@@ -77,13 +75,7 @@ module _ (found : Found) (way : Way) (form : Form) (input : Text) where
     pub asked : (result : Option ValueTask) → way ≡ ask.value.way → form ≡ ask.form → input ≡ ask.value.input
         → IsWhole result
         → IfSome result IsRequest
-        → IsSomeAnd result (λ asked. Some (Value (value_ask_of asked)) ≡ Some (Value ask))
+        → IsSomeAnd result (λ asked. Value (value_ask_of asked) ≡ Value ask)
     asked None way_is form_is input_is whole is =
         let bad : false ≡ true = some_asked None whole in absurd cc
-    asked (Some it) way_is form_is input_is whole is = ap (λ a. Some (Value a)) (is_asked it way_is form_is input_is is)
-
-pub same_way : (a b : Way) → name_of a ≡ name_of b → a ≡ b
-same_way Encode Encode same = refl
-same_way Decode Decode same = refl
-same_way Encode Decode same = absurd (different 101 100 (ap (λ t. slice_index t 0) same) (omega arith))
-same_way Decode Encode same = absurd (different 100 101 (ap (λ t. slice_index t 0) same) (omega arith))
+    asked (Some it) way_is form_is input_is whole is = ap Value (is_asked it way_is form_is input_is is)

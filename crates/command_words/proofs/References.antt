@@ -55,7 +55,7 @@ module _ (found : Found) where
         → IfSome result (λ asked. (text : Text) → one_text found (codes "port") ≡ Some text
         → digits_value 10 (without_leading_plus text) ≡ asked.wanted.port)
         → IfSome result (λ asked. first_value found (codes "object") ≡ Some asked.wanted.object.now)
-        → IsSomeAnd result (λ asked. Some (Reference (reference_ask_of asked)) ≡ Some (Reference ask))
+        → IsSomeAnd result (λ asked. Reference (reference_ask_of asked) ≡ Reference ask)
     asked None whole table host port object = let bad : false ≡ true = some_asked None whole in absurd cc
     asked (Some it) whole table host port object =
-        ap (λ a. Some (Reference a)) (is_asked it (record { table = table; host = host; port = port; object = object }))
+        ap Reference (is_asked it (record { table = table; host = host; port = port; object = object }))

@@ -9,7 +9,7 @@ use Rattle.clap.specs.declared.parser.matches.ValueSource.TheVariants.{CommandLi
 use Rattle.clap.proofs.OnLiterals.{clap_on_literals}
 use Rattle.type_graph.specs.declared.width.Order.TheVariants.{Big}
 use Rattle.command_words.specs.declared.requests.value.Way.TheVariants.{Encode}
-use Rattle.command_words.specs.Ask.{Answer, Ask, Call, CallAsk, Dump, DumpAsk, Explanation, Reference, Value}
+use Rattle.command_words.specs.Ask.{Answer, Ask, Call, CallAsk, Compile, Dump, DumpAsk, Explanation, Reference, Value}
 use Rattle.command_words.specs.declared.requests.value.Form.TheVariants.{Hex, Text as AsText}
 use Rattle.command_words.specs.Commands.{program_app}
 use Rattle.command_words.specs.Spoken.{spoken}
@@ -254,6 +254,40 @@ explain_words_ask orders takes_orders = rw takes_orders.is_of_names (explain_rea
 
 pub list_words_ask : AsksFor list_words (Answer (Explanation None))
 list_words_ask orders takes_orders = rw takes_orders.is_of_names (list_read takes_orders.names)
+
+-- a file to compile
+abbrev compile_words : List Text
+compile_words = codes "idlc" ∷ codes "compile" ∷ codes "a.idl" ∷ codes "-o" ∷ codes "a.table" ∷ []
+
+abbrev compile_found : List Row
+compile_found = row (codes "F") (codes "a.idl") ∷ row (codes "o") (codes "a.table") ∷ unasked ∷ []
+
+abbrev compile_ask : Ask
+compile_ask = Compile (codes "a.idl") (codes "a.table")
+
+module _ (orders : Bor (List (Bor Text))) where
+  compile_taken : takes (program_app (Names orders)) compile_words ≡ true
+  unfolding clap_on_literals
+  compile_taken = refl
+
+  is_compile : subcommand_of (program_app (Names orders)) compile_words ≡ Some (codes "compile", compile_found)
+  unfolding clap_on_literals
+  is_compile = refl
+
+  compile_tells : Tells compile_found compile_ask
+  unfolding clap_on_literals
+  compile_tells = record { read_is = refl; written_is = refl }
+
+  pub compile_read : IsReadAs (program_app (Names orders)) compile_words (Answer compile_ask)
+  compile_read = record {
+    taken = compile_taken;
+    rows = compile_found;
+    command = is_compile;
+    tells = compile_tells;
+  }
+
+pub compile_words_ask : AsksFor compile_words (Answer compile_ask)
+compile_words_ask orders takes_orders = rw takes_orders.is_of_names (compile_read takes_orders.names)
 
 -- a call without options
 abbrev call_words : List Text

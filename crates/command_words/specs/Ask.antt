@@ -47,6 +47,14 @@ pub record DumpAsk : Type 0 where
 pub data Ask : Type 0 where
   Value : ValueAsk → Ask
   Reference : ReferenceAsk → Ask
+  -- whether a table is right
+  Check : List ℕ → Ask
+  -- what a table has; with the flag what texts of its values look like
+  Show : List ℕ → Bool → Ask
+  -- a table, in another file
+  Upgrade : List ℕ → List ℕ → Ask
+  -- the table of an IDL file, in another file
+  Compile : List ℕ → List ℕ → Ask
   -- what the refusals of a number or a name mean, or which there are
   Explanation : Option (List ℕ) → Ask
   -- what a reference says
@@ -94,20 +102,22 @@ table_of (tables.Reference asked) = asked.table.now
 table_of (tables.Check table) = table.now
 table_of (tables.Show table types) = table.now
 
--- what a task answers, but for tables
-abbrev pub table_ask_of : TableTask → Option Ask
-table_ask_of (tables.Value asked) = Some (Value (value_ask_of asked))
-table_ask_of (tables.Reference asked) = Some (Reference (reference_ask_of asked))
-table_ask_of task = None
+-- what a task answers
+abbrev pub table_ask_of : TableTask → Ask
+table_ask_of (tables.Value asked) = Value (value_ask_of asked)
+table_ask_of (tables.Reference asked) = Reference (reference_ask_of asked)
+table_ask_of (tables.Check table) = Check table.now
+table_ask_of (tables.Show table types) = Show table.now types
 
-abbrev pub ask_of : Task → Option Ask
+abbrev pub ask_of : Task → Ask
 ask_of (tasks.Table task) = table_ask_of task
-ask_of (tasks.Explain word) = Some (Explanation (option_map (λ text. text.now) word))
-ask_of (tasks.Describe reference) = Some (Description reference.now)
-ask_of task = None
+ask_of (tasks.Explain word) = Explanation (option_map (λ text. text.now) word)
+ask_of (tasks.Describe reference) = Description reference.now
+ask_of (tasks.Upgrade table output) = Upgrade table.now output.now
+ask_of (tasks.Compile source output) = Compile source.now output.now
 
 abbrev pub asked_of : Said → Option Asked
-asked_of (lines.Do task) = option_map Answer (ask_of task)
+asked_of (lines.Do task) = Some (Answer (ask_of task))
 asked_of (lines.Call task) = Some (Call (call_ask_of task))
 asked_of (lines.Dump task) = Some (Dump (dump_ask_of task))
 asked_of said = None
@@ -116,6 +126,10 @@ asked_of said = None
 abbrev pub command_of : Ask → List ℕ
 command_of (Value ask) = name_of ask.value.way
 command_of (Reference ask) = codes "ior"
+command_of (Check table) = codes "check"
+command_of (Show table types) = codes "show"
+command_of (Upgrade table output) = codes "upgrade"
+command_of (Compile source output) = codes "compile"
 command_of (Explanation word) = codes "explain"
 command_of (Description reference) = codes "reference"
 

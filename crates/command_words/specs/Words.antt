@@ -14,7 +14,7 @@ use Rattle.command_words.specs.declared.requests.value.Way.{Way}
 use Rattle.command_words.specs.declared.requests.value.Way.TheVariants.{Encode, Decode}
 use Rattle.command_words.specs.declared.requests.value.Form.{Form}
 use Rattle.command_words.specs.declared.requests.value.Form.TheVariants as forms
-use Rattle.command_words.specs.Ask.{Answer, Ask, Asked, Call, CallAsk, Dump, DumpAsk, Description, Explanation, Reference, ReferenceAsk, Value, ValueAsk, asking_command}
+use Rattle.command_words.specs.Ask.{Answer, Ask, Asked, Call, CallAsk, Check, Compile, Dump, DumpAsk, Description, Explanation, Reference, ReferenceAsk, Show, Upgrade, Value, ValueAsk, asking_command}
 use Rattle.command_words.specs.Commands.{program_app}
 use Rattle.command_words.specs.Spoken.{spoken}
 
@@ -80,9 +80,36 @@ TellsRefusal rows word = first_of (codes "REFUSAL") rows ≡ word
 abbrev pub TellsDescription : List Row → Text → Type 0
 TellsDescription rows reference = first_of (codes "IOR") rows ≡ Some reference
 
+abbrev pub TellsTable : List Row → Text → Type 0
+TellsTable rows table = first_of (codes "T") rows ≡ Some table
+
+-- what is found for a flag that stands there, or doesn't
+abbrev pub word_of_flag : Bool → Text
+word_of_flag true = codes "true"
+word_of_flag false = codes "false"
+
+pub record TellsShow (rows : List Row) (table : Text) (types : Bool) : Type 0 where
+  pub table_is : TellsTable rows table
+  pub types_is : one_of (codes "types") rows ≡ Some (word_of_flag types)
+
+-- a file to read, found for the argument of this name, and one to write
+pub record TellsFiles (id : Text) (rows : List Row) (read written : Text) : Type 0 where
+  pub read_is : first_of id rows ≡ Some read
+  pub written_is : first_of (codes "o") rows ≡ Some written
+
+abbrev pub TellsUpgrade : List Row → Text → Text → Type 0
+TellsUpgrade rows table output = TellsFiles (codes "T") rows table output
+
+abbrev pub TellsCompile : List Row → Text → Text → Type 0
+TellsCompile rows source output = TellsFiles (codes "F") rows source output
+
 abbrev pub Tells : List Row → Ask → Type 0
 Tells rows (Value ask) = TellsValue rows ask
 Tells rows (Reference ask) = TellsReference rows ask
+Tells rows (Check table) = TellsTable rows table
+Tells rows (Show table types) = TellsShow rows table types
+Tells rows (Upgrade table output) = TellsUpgrade rows table output
+Tells rows (Compile source output) = TellsCompile rows source output
 Tells rows (Explanation word) = TellsRefusal rows word
 Tells rows (Description reference) = TellsDescription rows reference
 
@@ -102,11 +129,6 @@ pub record TellsCall (rows : List Row) (ask : CallAsk) : Type 0 where
   pub order : TellsOrder rows ask.order
   pub wait : TellsOption (codes "wait") 30 rows ask.wait
   pub repeat : TellsOption (codes "repeat") 1 rows ask.repeat
-
--- what is found for a flag that stands there, or doesn't
-abbrev pub word_of_flag : Bool → Text
-word_of_flag true = codes "true"
-word_of_flag false = codes "false"
 
 pub record TellsDump (rows : List Row) (ask : DumpAsk) : Type 0 where
   pub table : first_of (codes "T") rows ≡ Some ask.table

@@ -4,8 +4,8 @@ ghost use Rattle.std.specs.Prelude.{◌≡◌, ◌<◌, ◌^◌, ◌↔◌, Bool
 ghost use Rattle.std.specs.Str.Parse.{IsNumeral, digits_value, without_leading_plus};
 ghost use Rattle.clap.specs.Words.{rows_of, Row, Text, subcommand_rows_of};
 ghost use Rattle.clap.specs.Matches.{found_of, first_value, one_text};
-ghost use Rattle.command_words.specs.Ask.{Answer, Ask, Asked, CallAsk, DumpAsk, Description, Explanation, Reference, ReferenceAsk, Value, ValueAsk, ask_of, asked_of, asking_command, call_ask_of, command_of, dump_ask_of};
-ghost use Rattle.command_words.specs.Words.{IsUnclear, Tells, TellsAsked, TellsCall, TellsDump, TellsDescription, TellsExplain, TellsPlace, TellsReference, TellsRefusal, TellsValue};
+ghost use Rattle.command_words.specs.Ask.{Answer, Ask, Asked, CallAsk, Check, Compile, DumpAsk, Description, Explanation, Reference, ReferenceAsk, Show, Upgrade, Value, ValueAsk, ask_of, asked_of, asking_command, call_ask_of, command_of, dump_ask_of};
+ghost use Rattle.command_words.specs.Words.{IsUnclear, Tells, TellsAsked, TellsCall, TellsCompile, TellsDump, TellsDescription, TellsExplain, TellsPlace, TellsReference, TellsRefusal, TellsShow, TellsTable, TellsUpgrade, TellsValue};
 
 use crate::mistake::Mistake;
 use crate::requests::{Form, ReferenceRequest, ValueRequest, Way};
@@ -60,7 +60,7 @@ fn asked_in<'a>(
 fn value<'a>(way: Way, form: Form, words: &ArgMatches<'a>, input: &'a str) -> Option<Task<'a>>
     ensures { (ask : ValueAsk) → way ≡ ask.value.way → form ≡ ask.form → input.entry.now ≡ ask.value.input
         → TellsPlace (rows_of (found_of words.now)) ask
-        → IsSomeAnd result (λ task. ask_of task ≡ Some (Value ask)) }
+        → IsSomeAnd result (λ task. ask_of task ≡ Value ask) }
 {
     let asked = asked_in(way, form, words, input)?;
     Some(Task::Table(TableTask::Value(asked)))
@@ -69,7 +69,7 @@ fn value<'a>(way: Way, form: Form, words: &ArgMatches<'a>, input: &'a str) -> Op
 /// A value to encode, by its tape or its text: by one of them.
 fn to_encode<'a>(words: &ArgMatches<'a>) -> Option<Task<'a>>
     ensures asked { (ask : ValueAsk) → ask.value.way ≡ Way.Encode → TellsValue (rows_of (found_of words.now)) ask
-        → IsSomeAnd result (λ task. ask_of task ≡ Some (Value ask)) }
+        → IsSomeAnd result (λ task. ask_of task ≡ Value ask) }
     ensures unclear { IsUnclear (rows_of (found_of words.now)) → result ≡ None }
 {
     match (words.get_str("HEX"), words.get_str("text")) {
@@ -83,7 +83,7 @@ fn to_encode<'a>(words: &ArgMatches<'a>) -> Option<Task<'a>>
 /// Octets to decode, to a tape or to text.
 fn to_decode<'a>(words: &ArgMatches<'a>) -> Option<Task<'a>>
     ensures { (ask : ValueAsk) → ask.value.way ≡ Way.Decode → TellsValue (rows_of (found_of words.now)) ask
-        → IsSomeAnd result (λ task. ask_of task ≡ Some (Value ask)) }
+        → IsSomeAnd result (λ task. ask_of task ≡ Value ask) }
 {
     let hex = words.get_str("HEX")?;
     if words.get_flag("text") {
@@ -122,7 +122,7 @@ fn reference_in<'a>(matches: &ArgMatches<'a>) -> Option<ReferenceTask<'a>>
 
 fn reference<'a>(words: &ArgMatches<'a>) -> Option<Task<'a>>
     ensures { (ask : ReferenceAsk) → TellsReference (rows_of (found_of words.now)) ask
-        → IsSomeAnd result (λ task. ask_of task ≡ Some (Reference ask)) }
+        → IsSomeAnd result (λ task. ask_of task ≡ Reference ask) }
 {
     let asked = reference_in(words)?;
     Some(Task::Table(TableTask::Reference(asked)))
@@ -130,7 +130,7 @@ fn reference<'a>(words: &ArgMatches<'a>) -> Option<Task<'a>>
 
 fn explain<'a>(words: &ArgMatches<'a>) -> Task<'a>
     ensures { (word : Option (List ℕ)) → TellsRefusal (rows_of (found_of words.now)) word
-        → ask_of result ≡ Some (Explanation word) }
+        → ask_of result ≡ Explanation word }
 {
     Task::Explain {
         word: words.get_str("REFUSAL"),
@@ -139,36 +139,49 @@ fn explain<'a>(words: &ArgMatches<'a>) -> Task<'a>
 
 fn describe<'a>(words: &ArgMatches<'a>) -> Option<Task<'a>>
     ensures { (reference : List ℕ) → TellsDescription (rows_of (found_of words.now)) reference
-        → IsSomeAnd result (λ task. ask_of task ≡ Some (Description reference)) }
+        → IsSomeAnd result (λ task. ask_of task ≡ Description reference) }
 {
     Some(Task::Describe {
         reference: words.get_str("IOR")?,
     })
 }
 
-fn upgrade<'a>(matches: &ArgMatches<'a>) -> Option<Task<'a>> {
+fn upgrade<'a>(words: &ArgMatches<'a>) -> Option<Task<'a>>
+    ensures { (table output : List ℕ) → TellsUpgrade (rows_of (found_of words.now)) table output
+        → IsSomeAnd result (λ task. ask_of task ≡ Upgrade table output) }
+{
     Some(Task::Upgrade {
-        table: matches.get_str("T")?,
-        output: matches.get_str("o")?,
+        table: words.get_str("T")?,
+        output: words.get_str("o")?,
     })
 }
 
-fn compile<'a>(matches: &ArgMatches<'a>) -> Option<Task<'a>> {
+fn compile<'a>(words: &ArgMatches<'a>) -> Option<Task<'a>>
+    ensures { (source output : List ℕ) → TellsCompile (rows_of (found_of words.now)) source output
+        → IsSomeAnd result (λ task. ask_of task ≡ Compile source output) }
+{
     Some(Task::Compile {
-        source: matches.get_str("F")?,
-        output: matches.get_str("o")?,
+        source: words.get_str("F")?,
+        output: words.get_str("o")?,
     })
 }
 
-fn check<'a>(words: &ArgMatches<'a>) -> Option<Task<'a>> {
+fn check<'a>(words: &ArgMatches<'a>) -> Option<Task<'a>>
+    ensures { (table : List ℕ) → TellsTable (rows_of (found_of words.now)) table
+        → IsSomeAnd result (λ task. ask_of task ≡ Check table) }
+{
     let table = words.get_str("T")?;
     Some(Task::Table(TableTask::Check { table }))
 }
 
-fn show<'a>(words: &ArgMatches<'a>) -> Option<Task<'a>> {
+fn show<'a>(words: &ArgMatches<'a>) -> Option<Task<'a>>
+    ensures { (table : List ℕ) (types : Bool) → TellsShow (rows_of (found_of words.now)) table types
+        → IsSomeAnd result (λ task. ask_of task ≡ Show table types) }
+{
+    let types = words.get_flag("types");
     Some(Task::Table(TableTask::Show {
         table: words.get_str("T")?,
-        types: words.get_flag("types"),
+        types,
     }))
 }
 
@@ -237,7 +250,7 @@ fn dump<'a>(words: &ArgMatches<'a>) -> Option<DumpTask<'a>>
 /// that none is missing.
 fn task_in<'a>(name: &str, words: &ArgMatches<'a>) -> Option<Task<'a>>
     ensures asked { (ask : Ask) → name.now ≡ command_of ask → Tells (rows_of (found_of words.now)) ask
-        → IsSomeAnd result (λ task. ask_of task ≡ Some ask) }
+        → IsSomeAnd result (λ task. ask_of task ≡ ask) }
     ensures unclear { name.now ≡ codes "encode" → IsUnclear (rows_of (found_of words.now)) → result ≡ None }
 {
     match name {

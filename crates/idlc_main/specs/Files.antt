@@ -1,14 +1,14 @@
 -- What is read from files and written to them.
-use Rattle.std.specs.Prelude.{◌≡◌, ℕ, List}
+use Rattle.std.specs.Prelude.{◌≡◌, ◌≢◌, ◌⊎◌, ℕ, List}
 use Rattle.std.specs.String.{string_bytes}
-use Rattle.command_words.specs.declared.task.TableTask.TheVariants.{Check}
-use Rattle.command_words.specs.declared.task.Task.{Task}
-use Rattle.command_words.specs.declared.task.Task.TheVariants.{Compile, Table, Upgrade}
-use Rattle.idl_compiler.specs.Files.{IsCompiledFile}
+use Rattle.idl_compiler.specs.Files.{IsCompiledFile, IsRefusedFile}
+use Rattle.idl_compiler.specs.declared.fault.CompileFault.{CompileFault}
+use Rattle.idl_compiler.specs.declared.fault.CompileFault.TheVariants.{NoMemory}
 use Rattle.idl_compiler.specs.declared.file.CompiledFile.{CompiledFile}
-use Rattle.command_tables.specs.Named.{Passing, IsUpgraded}
-use Rattle.position_checker.specs.Summary.{accepted}
-use Rattle.idlc_main.specs.Tables.{HasTable}
+use Rattle.command_tables.specs.Named.{Passing, IsNoUpgrade, IsUnread, IsUnwritten}
+use Rattle.command_tables.specs.declared.refusal.Refusal.{Refusal}
+use Rattle.idlc_main.specs.declared.fault.Fault.{Fault}
+use Rattle.idlc_main.specs.declared.fault.Fault.TheVariants.{Explained, NotCompiled, Refused}
 
 -- an IDL file was read, its table was written to another file, and the line tells of it
 pub record IsCompiledTo (Reads Takes : Passing) (source output line : List ℕ) : Type 0 where
@@ -19,9 +19,32 @@ pub record IsCompiledTo (Reads Takes : Passing) (source output line : List ℕ) 
   pub taken : Takes output file.octets.items
   pub line_is : line ≡ string_bytes file.line
 
--- what the commands for tables do, and the line that tells of it
-abbrev pub IsDone : Passing → Passing → Task → List ℕ → Type 0
-IsDone Reads Takes (Table (Check name)) line = HasTable Reads name.now (λ table labels. line ≡ accepted table)
-IsDone Reads Takes (Upgrade table output) line = IsUpgraded Reads Takes table.now output.now line
-IsDone Reads Takes (Compile source output) line = IsCompiledTo Reads Takes source.now output.now line
-IsDone Reads Takes task line = Unit {0}
+-- ---- faults
+
+-- what an IDL file was read as has no table file
+pub record HasNoFile (Reads : Passing) (source : List ℕ) (fault : CompileFault) : Type 0 where
+  pub octets : List ℕ
+  pub read : Reads source octets
+  pub refused : IsRefusedFile octets fault
+
+-- it has one, but the other file can't be written
+pub record IsNotPut (Reads : Passing) (source output : List ℕ) (refusal : Refusal) : Type 0 where
+  pub octets : List ℕ
+  pub read : Reads source octets
+  pub file : CompiledFile
+  pub is : IsCompiledFile octets file
+  pub unwritten : IsUnwritten output refusal
+
+-- an IDL file can't be read or has no table file, or the other file can't be written; of the IDL file it may be told
+-- what else is known
+abbrev pub IsCompileFault : Passing → List ℕ → List ℕ → Fault → Type 0
+IsCompileFault Reads source output (Refused refusal) = IsUnread Reads source refusal
+    ⊎ IsNotPut Reads source output refusal
+IsCompileFault Reads source output (NotCompiled fault) = HasNoFile Reads source fault
+IsCompileFault Reads source output (Explained fault view) = (fault ≢ NoMemory) × HasNoFile Reads source fault
+IsCompileFault Reads source output fault = ⊥
+
+-- a table can't be had, or not be written to another file
+abbrev pub IsUpgradeFault : Passing → List ℕ → List ℕ → Fault → Type 0
+IsUpgradeFault Reads table output (Refused refusal) = IsNoUpgrade Reads table output refusal
+IsUpgradeFault Reads table output fault = ⊥

@@ -37,7 +37,7 @@ pub fn described<'a, R: WholeFiles + AllocGlobal>(
     rt: &R,
     word: &'a str,
 ) -> Result<TaskOutput, Fault<'a>>
-    ensures answers { IsAnswer (R.reads rt.now) (Description word.now) result }
+    ensures answers { IsAnswer (R.reads rt.now) (R.takes rt.now) (Description word.now) result }
     ensures told { IfErr result IsTold }
 {
     match text_of(rt, word) {

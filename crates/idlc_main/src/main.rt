@@ -160,7 +160,7 @@ pub fn run<
 >(rt: &R, words: &[&str], out: &mut O, err: &mut E, listener: ErrorReader) -> u8
     ensures range { result ≤ 6 }
     ensures asked { (ask : Ask) → AsksFor (texts words.now) (Answer ask)
-        → IsEndOf (R.reads rt.now) ask result (O.contents out.old) (O.contents out.new) }
+        → IsEndOf (R.reads rt.now) (R.takes rt.now) ask result (O.contents out.old) (O.contents out.new) }
     ensures kept { (ask : Ask) → AsksFor (texts words.now) (Answer ask) → result ≢ 0 → result ≢ 3 → out.new ≡ out.old }
     ensures mistaken { IsMistaken (texts words.now) → ((result ≡ 2) ⊎ (result ≡ 4)) × (out.new ≡ out.old) }
     ensures silent { result ≢ 0 → result < 3 → out.new ≡ out.old }

@@ -2,12 +2,11 @@
 
 ghost use Rattle.std.specs.Prelude.{◌≡◌, IfErr, IfOk, OnOk, None, Some};
 ghost use Rattle.std.specs.String.{string_bytes};
-ghost use Rattle.command_words.specs.Ask.{Ask, Explanation, ask_of, value_ask_of};
+ghost use Rattle.command_words.specs.Ask.{Compile, Explanation, Upgrade, ask_of, value_ask_of};
 ghost use Rattle.idl_compiler.specs.Files.{IsCompiledFile};
-ghost use Rattle.command_tables.specs.Named.{IsUpgraded};
+ghost use Rattle.command_tables.specs.Named.{IsUnwritten};
 ghost use Rattle.idlc_main.specs.Answer.{IsAnswer};
 ghost use Rattle.idlc_main.specs.Fault.{IsTold};
-ghost use Rattle.idlc_main.specs.Files.{IsCompiledTo, IsDone};
 ghost use Rattle.idlc_main.specs.Tables.{Answers, AnswersBy, IsRefusalBy, Refuses, RefusesBy};
 
 use crate::descriptions::described;
@@ -87,8 +86,7 @@ fn upgraded<'a, R: WholeFiles + AllocGlobal>(
     name: &'a str,
     output: &'a str,
 ) -> Result<TaskOutput, Fault<'a>>
-    ensures written { IfOk result (λ answer.
-        IsUpgraded (R.reads rt.now) (R.takes rt.now) name.now output.now (string_bytes answer.text)) }
+    ensures answers { IsAnswer (R.reads rt.now) (R.takes rt.now) (Upgrade name.now output.now) result }
     ensures told { IfErr result IsTold }
 {
     match upgrade(rt, name, output) {
@@ -102,7 +100,7 @@ fn explained<'a, R: WholeFiles + AllocGlobal>(
     rt: &R,
     word: &'a str,
 ) -> Result<TaskOutput, Fault<'a>>
-    ensures answers { IsAnswer (R.reads rt.now) (Explanation (Some word.now)) result }
+    ensures answers { IsAnswer (R.reads rt.now) (R.takes rt.now) (Explanation (Some word.now)) result }
     ensures told { IfErr result IsTold }
 {
     let texts = explanations(rt.alloc(), word)?;
@@ -114,7 +112,7 @@ fn explained<'a, R: WholeFiles + AllocGlobal>(
 
 /// The numbers and names of all refusals.
 fn listed<'a, R: WholeFiles + AllocGlobal>(rt: &R) -> Result<TaskOutput, Fault<'a>>
-    ensures answers { IsAnswer (R.reads rt.now) (Explanation None) result }
+    ensures answers { IsAnswer (R.reads rt.now) (R.takes rt.now) (Explanation None) result }
     ensures told { IfErr result IsTold }
 {
     Ok(TaskOutput::plain(headings(rt.alloc())?))
@@ -128,7 +126,8 @@ fn put_compiled<'a, R: WholeFiles>(
     file: &CompiledFile,
 ) -> Result<(), Refusal<'a>>
     requires { IsCompiledFile source.now file.now }
-    ensures { OnOk result (R.takes rt.now output.now file.now.octets.items) }
+    ensures taken { OnOk result (R.takes rt.now output.now file.now.octets.items) }
+    ensures refused { IfErr result (IsUnwritten output.now) }
 {
     write_file(rt, output, file.octets.as_slice())
 }
@@ -140,8 +139,7 @@ fn compile<'a, R: WholeFiles + AllocGlobal>(
     output: &'a str,
     listener: ErrorReader,
 ) -> Result<TaskOutput, Fault<'a>>
-    ensures compiled { IfOk result (λ answer.
-        IsCompiledTo (R.reads rt.now) (R.takes rt.now) name.now output.now (string_bytes answer.text)) }
+    ensures answers { IsAnswer (R.reads rt.now) (R.takes rt.now) (Compile name.now output.now) result }
     ensures told { IfErr result IsTold }
 {
     let source = match read_file(rt, name) {
@@ -183,9 +181,7 @@ pub fn done<'a, R: WholeFiles + AllocGlobal>(
     task: &Task<'a>,
     listener: ErrorReader,
 ) -> Result<TaskOutput, Fault<'a>>
-    ensures answers { (ask : Ask) → ask_of task.now ≡ Some ask → IsAnswer (R.reads rt.now) ask result }
-    ensures tables { IfOk result (λ answer.
-        IsDone (R.reads rt.now) (R.takes rt.now) task.now (string_bytes answer.text)) }
+    ensures answers { IsAnswer (R.reads rt.now) (R.takes rt.now) (ask_of task.now) result }
     ensures told { IfErr result IsTold }
 {
     match task {

@@ -14,4 +14,4 @@ returns-in_err-get_str c reference tells =
 pub returns : goal.returns
 returns c reference tells =
     let there = first_value-rows (found_of c.args.words.now) (codes "IOR") ∙ tells in
-    ap (λ (w : List ℕ). Some (Description w)) (same_some _ _ _ (sym c.in_ok-get_str.ensures) there)
+    ap Description (same_some _ _ _ (sym c.in_ok-get_str.ensures) there)

@@ -6,5 +6,5 @@ use Rattle.command_words.proofs.matches.explain.Goals as goal
 
 pub returns : goal.returns
 returns c word tells =
-    ap (λ (w : Option (List ℕ)). Some (Explanation w))
+    ap Explanation
     (c.get_str.ensures ∙ first_value-rows (found_of c.args.words.now) (codes "REFUSAL") ∙ tells)
