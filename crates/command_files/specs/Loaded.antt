@@ -50,7 +50,8 @@ IsNotHeld octets (Refused (refusals.NoTable fault)) =
     IsTableFile octets × RefusesFile octets (refusals.NoTable fault)
 IsNotHeld octets (Refused (refusals.NotRight fault)) =
     IsTableFile octets × RefusesFile octets (refusals.NotRight fault)
-IsNotHeld octets (NotCompiled refusal) = (IsTableFile octets → ⊥) × IsRefusedSource octets refusal
+IsNotHeld octets (NotCompiled fault source) =
+    (source.items ≡ octets) × (IsTableFile octets → ⊥) × IsRefusedSource octets fault
 IsNotHeld octets (Refused refusals.NoMemory) = Unit {0}
 IsNotHeld octets fault = ⊥
 

@@ -18,8 +18,11 @@ use std::alloc::Global;
 pub enum NamedFault<'a> {
     /// A file or a table; want of memory.
     Refused(Refusal<'a>),
-    /// The IDL file has no table.
-    NotCompiled(CompileFault),
+    /// The IDL file, which was read as these octets, has no table.
+    NotCompiled {
+        fault: CompileFault,
+        source: Vec<u8>,
+    },
 }
 
 /// Whether octets are a table file's, and not an IDL file's, of which none begins so.
@@ -41,29 +44,32 @@ fn of_table<'a>(alloc: Global, octets: &[u8]) -> Result<Loaded, NamedFault<'a>>
     }
 }
 
-fn of_source<'a>(alloc: Global, octets: &[u8]) -> Result<Loaded, NamedFault<'a>>
-    requires { ¬ IsTableFile octets.now }
-    ensures held { IfOk result (λ loaded. IsHeldBy octets.now loaded.table loaded.names) }
+fn of_source<'a>(alloc: Global, octets: Vec<u8>) -> Result<Loaded, NamedFault<'a>>
+    requires { ¬ IsTableFile octets.entry.items }
+    ensures held { IfOk result (λ loaded. IsHeldBy octets.entry.items loaded.table loaded.names) }
     ensures right { IfOk result (λ loaded. IsRight loaded.table) }
-    ensures refused { IfErr result (IsNotHeld octets.now) }
+    ensures refused { IfErr result (IsNotHeld octets.entry.items) }
 {
-    match compile_source(alloc, octets) {
+    match compile_source(alloc, octets.as_slice()) {
         Ok(whole) => Ok(Loaded {
             table: whole.settled.table,
             names: whole.names,
         }),
-        Err(refusal) => Err(NamedFault::NotCompiled(refusal)),
+        Err(fault) => Err(NamedFault::NotCompiled {
+            fault,
+            source: octets,
+        }),
     }
 }
 
 /// The table that octets are, or that of the IDL that they are.
-fn held<'a>(alloc: Global, octets: &[u8]) -> Result<Loaded, NamedFault<'a>>
-    ensures held { IfOk result (λ loaded. IsHeldBy octets.now loaded.table loaded.names) }
+fn held<'a>(alloc: Global, octets: Vec<u8>) -> Result<Loaded, NamedFault<'a>>
+    ensures held { IfOk result (λ loaded. IsHeldBy octets.entry.items loaded.table loaded.names) }
     ensures right { IfOk result (λ loaded. IsRight loaded.table) }
-    ensures refused { IfErr result (IsNotHeld octets.now) }
+    ensures refused { IfErr result (IsNotHeld octets.entry.items) }
 {
-    if is_table(octets) {
-        of_table(alloc, octets)
+    if is_table(octets.as_slice()) {
+        of_table(alloc, octets.as_slice())
     } else {
         of_source(alloc, octets)
     }
@@ -88,7 +94,7 @@ pub fn load<'a, R: WholeFiles + AllocGlobal>(
         };
     }
     match read_file(rt, name) {
-        Ok(octets) => held(rt.alloc(), octets.as_slice()),
+        Ok(octets) => held(rt.alloc(), octets),
         Err(refusal) => Err(NamedFault::Refused(refusal)),
     }
 }

@@ -8,7 +8,7 @@ use Rattle.command_words.specs.Ask.{Answer, Ask, Asked, Call, CallAsk, Check, Co
 use Rattle.command_words.specs.Words.{Tells, TellsAsked, TellsCall, TellsCompile, TellsDescription, TellsReference, TellsRefusal, TellsShow, TellsTable, TellsUpgrade, TellsValue}
 
 -- the kinds of commands that ask for something
-data Kind : Type 0 where
+pub data Kind : Type 0 where
   Marshals : Way → Kind
   Refers : Kind
   Checks : Kind
@@ -20,7 +20,7 @@ data Kind : Type 0 where
   Calls : Kind
   Dumps : Kind
 
-abbrev kind_of : Asked → Kind
+abbrev pub kind_of : Asked → Kind
 kind_of (Answer (Value value)) = Marshals value.value.way
 kind_of (Answer (Reference reference)) = Refers
 kind_of (Answer (Check table)) = Checks
@@ -33,7 +33,7 @@ kind_of (Call call) = Calls
 kind_of (Dump dump) = Dumps
 
 -- that of a name, by its first letter and its length
-abbrev kind_by : ℕ → ℕ → Kind
+abbrev pub kind_by : ℕ → ℕ → Kind
 kind_by first len =
     if first == 101 then (if len == 6 then Marshals Encode else Explains)
     else if first == 100 then (if len == 6 then Marshals Decode else Dumps)
@@ -43,7 +43,7 @@ kind_by first len =
     else if first == 105 then Refers
     else Describes
 
-abbrev kind_in : Text → Kind
+abbrev pub kind_in : Text → Kind
 kind_in name = kind_by (slice_index name 0) (length name)
 
 of_way : (value : ValueAsk) (way : Way) → value.value.way ≡ way
@@ -67,57 +67,62 @@ pub by_value : (way : Way) (ask : Ask) (rows : List Row) (result : Option Task) 
     → Tells rows ask
     → ((value : ValueAsk) → value.value.way ≡ way → TellsValue rows value → IsFor (Value value) result)
     → IsFor ask result
-by_value way (Value value) rows result is tells then =
-    let same : value.value.way ≡ way = cc in then value same tells
-by_value way ask rows result is tells then = absurd cc
+by_value way (Value value) rows result is tells found =
+    let same : value.value.way ≡ way = cc in found value same tells
+by_value way ask rows result is tells found = absurd cc
 
 pub by_reference : (ask : Ask) (rows : List Row) (result : Option Task) → kind_of (Answer ask) ≡ Refers
     → Tells rows ask
     → ((reference : ReferenceAsk) → TellsReference rows reference → IsFor (Reference reference) result)
     → IsFor ask result
-by_reference (Reference reference) rows result is tells then = then reference tells
-by_reference ask rows result is tells then = absurd cc
+by_reference (Reference reference) rows result is tells found = found reference tells
+by_reference ask rows result is tells found = absurd cc
 
 pub by_check : (ask : Ask) (rows : List Row) (result : Option Task) → kind_of (Answer ask) ≡ Checks
     → Tells rows ask
     → ((table : Text) → TellsTable rows table → IsFor (Check table) result) → IsFor ask result
-by_check (Check table) rows result is tells then = then table tells
-by_check ask rows result is tells then = absurd cc
+by_check (Check table) rows result is tells found = found table tells
+by_check ask rows result is tells found = absurd cc
 
 pub by_show : (ask : Ask) (rows : List Row) (result : Option Task) → kind_of (Answer ask) ≡ Shows
     → Tells rows ask
     → ((table : Text) (types : Bool) → TellsShow rows table types → IsFor (Show table types) result)
     → IsFor ask result
-by_show (Show table types) rows result is tells then = then table types tells
-by_show ask rows result is tells then = absurd cc
+by_show (Show table types) rows result is tells found = found table types tells
+by_show ask rows result is tells found = absurd cc
 
 pub by_upgrade : (ask : Ask) (rows : List Row) (result : Option Task) → kind_of (Answer ask) ≡ Upgrades
     → Tells rows ask
     → ((table output : Text) → TellsUpgrade rows table output → IsFor (Upgrade table output) result)
     → IsFor ask result
-by_upgrade (Upgrade table output) rows result is tells then = then table output tells
-by_upgrade ask rows result is tells then = absurd cc
+by_upgrade (Upgrade table output) rows result is tells found = found table output tells
+by_upgrade ask rows result is tells found = absurd cc
 
 pub by_compile : (ask : Ask) (rows : List Row) (result : Option Task) → kind_of (Answer ask) ≡ Compiles
     → Tells rows ask
     → ((source output : Text) → TellsCompile rows source output → IsFor (Compile source output) result)
     → IsFor ask result
-by_compile (Compile source output) rows result is tells then = then source output tells
-by_compile ask rows result is tells then = absurd cc
+by_compile (Compile source output) rows result is tells found = found source output tells
+by_compile ask rows result is tells found = absurd cc
 
 pub by_explanation : (ask : Ask) (rows : List Row) (result : Option Task) → kind_of (Answer ask) ≡ Explains
     → Tells rows ask
     → ((word : Option Text) → TellsRefusal rows word → IsFor (Explanation word) result) → IsFor ask result
-by_explanation (Explanation word) rows result is tells then = then word tells
-by_explanation ask rows result is tells then = absurd cc
+by_explanation (Explanation word) rows result is tells found = found word tells
+by_explanation ask rows result is tells found = absurd cc
 
 pub by_description : (ask : Ask) (rows : List Row) (result : Option Task) → kind_of (Answer ask) ≡ Describes
     → Tells rows ask
     → ((reference : Text) → TellsDescription rows reference → IsFor (Description reference) result) → IsFor ask result
-by_description (Description reference) rows result is tells then = then reference tells
-by_description ask rows result is tells then = absurd cc
+by_description (Description reference) rows result is tells found = found reference tells
+by_description ask rows result is tells found = absurd cc
+
+no_call : (ask : Ask) → kind_of (Answer ask) ≡ Calls → ⊥
+no_call (Value value) is = absurd cc
+no_call ask is = absurd cc
 
 pub by_call : {A : Type 0} (rows : List Row) (asked : Asked) → kind_of asked ≡ Calls → TellsAsked rows asked
     → ((ask : CallAsk) → asked ≡ Call ask → TellsCall rows ask → A) → A
-by_call rows (Call ask) is tells then = then ask refl tells
-by_call rows asked is tells then = absurd cc
+by_call rows (Call ask) is tells found = found ask refl tells
+by_call rows (Answer ask) is tells found = absurd (no_call ask is)
+by_call rows (Dump dump) is tells found = absurd cc

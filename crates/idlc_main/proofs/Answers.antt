@@ -1,5 +1,5 @@
 -- What is answered by a table is what was asked for.
-use Rattle.std.proofs.Common.{◌≡◌, inl, inr, IfOk, IfErr, Result, Ok, Err, string_bytes, subst}
+use Rattle.std.proofs.Common.{◌≡◌, inl, inr, IfOk, IfErr, ℕ, List, Result, Ok, Err, string_bytes}
 use Rattle.idlc_main.specs.declared.fault.Fault.{Fault}
 use Rattle.idlc_main.specs.declared.told.TaskOutput.{TaskOutput}
 use Rattle.command_words.specs.declared.task.TableTask.{TableTask}
@@ -10,7 +10,10 @@ use Rattle.idlc_main.specs.Tables.{Answers, HasTable, IsRefusalBy, IsTableFault,
 use Rattle.command_tables.specs.Named.{Passing}
 use Rattle.table_file.specs.Table.{TableParts}
 use Rattle.command_texts.specs.Lines.{Labels}
-use Rattle.command_files.specs.Loaded.{IsLoaded}
+use Rattle.command_files.specs.Loaded.{IsLoaded, IsNotLoaded}
+use Rattle.command_files.specs.declared.loaded.NamedFault.{NamedFault}
+use Rattle.command_files.specs.declared.loaded.NamedFault.TheVariants.{NotCompiled, Refused}
+use Rattle.idlc_main.specs.Fault.{fault_of}
 
 module _ (Reads Takes : Passing) where
   by_task : (task : TableTask) (result : Result TaskOutput Fault)
@@ -33,6 +36,12 @@ module _ (Reads Takes : Passing) where
       by_task task (Err refused) tt (inr (record { table = table; labels = labels; is = loaded; so = fault }))
 
   -- or it has none
-  pub no_answer : (task : TableTask) (fault : Fault) → IsUnloaded Reads (table_of task) fault
-      → IsAnswer Reads Takes (table_ask_of task) (Err fault)
-  no_answer task fault none = by_task task (Err fault) tt (inl none)
+  unloaded : (name : List ℕ) (named : NamedFault) → IsNotLoaded Reads name named
+      → IsUnloaded Reads name (fault_of named)
+  unloaded name (Refused refusal) none = none
+  unloaded name (NotCompiled fault source) none = none
+
+  pub no_answer : (task : TableTask) (named : NamedFault) (fault : Fault) → fault ≡ fault_of named
+      → IsNotLoaded Reads (table_of task) named → IsAnswer Reads Takes (table_ask_of task) (Err fault)
+  no_answer task named fault is none =
+      rw is (by_task task (Err (fault_of named)) tt (inl (unloaded (table_of task) named none)))

@@ -1,9 +1,11 @@
 -- How a run ends, on an answer or a fault.
 use Rattle.std.proofs.Common.{◌≡◌, refl, sym, ◌∙◌, subst, ℕ, ◌≤◌, ◌⊎◌, inl, inr, List, Option, Ok, string_bytes, arith}
 use Rattle.std.specs.Io.KnownBytes.{Appends}
+use Rattle.std.specs.declared.alloc.Global.{Global}
+use Rattle.std.specs.declared.vec.Vec.{Vec}
 use Rattle.idlc_main.specs.declared.told.TaskOutput.{TaskOutput}
 use Rattle.idlc_main.specs.declared.fault.Fault.{Fault}
-use Rattle.idlc_main.specs.declared.fault.Fault.TheVariants.{Words, Refused, NotCompiled, Explained, NotSpelled, NoRefusal}
+use Rattle.idlc_main.specs.declared.fault.Fault.TheVariants.{Words, Refused, NotCompiled, NotSpelled, NoRefusal}
 use Rattle.command_words.specs.declared.mistake.Mistake.{Mistake}
 use Rattle.command_words.specs.declared.mistake.Mistake.TheVariants as mistakes
 use Rattle.idl_compiler.specs.declared.fault.CompileFault.{CompileFault}
@@ -32,9 +34,9 @@ refusals_are (refusals.Unwritten file) = inr (omega arith)
 refusals_are refusals.NoMemory = inr (omega arith)
 refusals_are refusal = inl refl
 
-sources_are : (refusal : CompileFault) → IsOrdinary (NotCompiled refusal)
-sources_are sources.NoMemory = inr (omega arith)
-sources_are refusal = inl refl
+sources_are : (fault : CompileFault) (source : Vec ℕ Global) → IsOrdinary (NotCompiled fault source)
+sources_are sources.NoMemory source = inr (omega arith)
+sources_are fault source = inl refl
 
 spellings_are : (fault : SpellingFault) → IsOrdinary (NotSpelled fault)
 spellings_are spellings.NoMemory = inr (omega arith)
@@ -44,8 +46,7 @@ spellings_are fault = inl refl
 tables_are : (Reads : Passing) (name : List ℕ) (Refuses : Refusal → TableParts → Labels → Type 0) (fault : Fault)
     → IsTableFault Reads name Refuses fault → IsOrdinary fault
 tables_are Reads name Refuses (Refused refusal) is = refusals_are refusal
-tables_are Reads name Refuses (NotCompiled refusal) is = sources_are refusal
-tables_are Reads name Refuses (Explained refusal view) is = inl refl
+tables_are Reads name Refuses (NotCompiled fault source) is = sources_are fault source
 tables_are Reads name Refuses fault (inl is) = absurd is
 tables_are Reads name Refuses fault (inr is) = absurd is.so
 
@@ -119,8 +120,7 @@ upgrades_are Reads table output fault told = absurd told
 files_are : (Reads : Passing) (source output : List ℕ) (fault : Fault) → IsCompileFault Reads source output fault
     → IsOrdinary fault
 files_are Reads source output (Refused refusal) told = refusals_are refusal
-files_are Reads source output (NotCompiled refusal) told = sources_are refusal
-files_are Reads source output (Explained refusal view) told = inl refl
+files_are Reads source output (NotCompiled refusal octets) told = sources_are refusal octets
 files_are Reads source output fault told = absurd told
 
 -- there is no reference, or memory was wanted

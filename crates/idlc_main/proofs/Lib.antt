@@ -1,5 +1,4 @@
 pub mod Answers
-pub mod Compiles
 pub mod Ends
 pub mod Unspelled
 pub mod DumpEnds

@@ -1,7 +1,6 @@
 -- The status with which the program ends on a fault.
-use Rattle.std.specs.Prelude.{◌≡◌, ◌≢◌, ℕ}
+use Rattle.std.specs.Prelude.{ℕ}
 use Rattle.command_words.specs.declared.mistake.Mistake.TheVariants as mistakes
-use Rattle.idl_compiler.specs.declared.fault.CompileFault.{CompileFault}
 use Rattle.idl_compiler.specs.declared.fault.CompileFault.TheVariants as sources
 use Rattle.command_tables.specs.declared.refusal.Refusal.TheVariants as refusals
 use Rattle.call_commands.specs.Causes.{cause_of}
@@ -11,8 +10,10 @@ use Rattle.reference_listing.specs.declared.spelled_references.fault.SpellingFau
 use Rattle.giop_dumps.specs.declared.fault.DumpFault.TheVariants as dumps
 use Rattle.giop_words.specs.declared.dump_commands.fault.CaptureFault.TheVariants as captures
 use Rattle.broker_sockets.specs.declared.fault.ServeFault.TheVariants as servings
+use Rattle.command_files.specs.declared.loaded.NamedFault.{NamedFault}
+use Rattle.command_files.specs.declared.loaded.NamedFault.TheVariants as named
 use Rattle.idlc_main.specs.declared.fault.Fault.{Fault}
-use Rattle.idlc_main.specs.declared.fault.Fault.TheVariants.{Words, NotText, Refused, NotCompiled, Explained, NotSpelled, NotDumped, NotCalled, NotServed, NoRefusal, Unwritten}
+use Rattle.idlc_main.specs.declared.fault.Fault.TheVariants.{Words, NotText, Refused, NotCompiled, NotSpelled, NotDumped, NotCalled, NotServed, NoRefusal, Unwritten}
 
 abbrev pub status_of_cause : Cause → ℕ
 status_of_cause causes.Input = 1
@@ -23,7 +24,7 @@ status_of_cause causes.Memory = 4
 abbrev pub status_of : Fault → ℕ
 status_of (Words mistakes.NoMemory) = 4
 status_of (Refused refusals.NoMemory) = 4
-status_of (NotCompiled sources.NoMemory) = 4
+status_of (NotCompiled sources.NoMemory source) = 4
 status_of (NotSpelled spellings.NoMemory) = 4
 status_of (NotDumped captures.NoMemory) = 4
 status_of (NotServed servings.NoMemory) = 4
@@ -40,11 +41,10 @@ status_of (NoRefusal word) = 2
 status_of (NotCalled refusal) = status_of_cause (cause_of refusal)
 status_of fault = 1
 
--- the fault of an IDL file, with or without what else is known
-abbrev pub IsOfSource : CompileFault → Fault → Type 0
-IsOfSource refusal (Explained same view) = (same ≡ refusal) × (refusal ≢ sources.NoMemory)
-IsOfSource refusal (NotCompiled same) = same ≡ refusal
-IsOfSource refusal fault = ⊥
+-- the fault of a name that has no table
+abbrev pub fault_of : NamedFault → Fault
+fault_of (named.Refused refusal) = Refused refusal
+fault_of (named.NotCompiled fault source) = NotCompiled fault source
 
 -- a fault that standard error tells of
 abbrev pub IsTold : Fault → Type 0

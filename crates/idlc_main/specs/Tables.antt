@@ -1,5 +1,5 @@
 -- What is answered by the table of a name.
-use Rattle.std.specs.Prelude.{◌≡◌, ◌≢◌, ◌⊎◌, ℕ, List}
+use Rattle.std.specs.Prelude.{◌≡◌, ◌⊎◌, ℕ, List}
 use Rattle.command_words.specs.Ask.{ValueAsk, reference_ask_of, value_ask_of}
 use Rattle.command_words.specs.declared.task.TableTask.{TableTask}
 use Rattle.command_words.specs.declared.task.TableTask.TheVariants.{Check, Reference, Show, Value}
@@ -15,9 +15,8 @@ use Rattle.command_tables.specs.declared.refusal.Refusal.TheVariants.{NoMemory}
 use Rattle.command_texts.specs.Lines.{IsLineOf, IsRefusedIn, Labels}
 use Rattle.command_files.specs.Loaded.{IsLoaded, IsNotLoaded}
 use Rattle.command_files.specs.declared.loaded.NamedFault.TheVariants as named
-use Rattle.idl_compiler.specs.declared.fault.CompileFault.TheVariants as sources
 use Rattle.idlc_main.specs.declared.fault.Fault.{Fault}
-use Rattle.idlc_main.specs.declared.fault.Fault.TheVariants.{Explained, NotCompiled, Refused}
+use Rattle.idlc_main.specs.declared.fault.Fault.TheVariants.{NotCompiled, Refused}
 
 -- the name has a table, with names of parts, of which this is so
 pub record HasTable (Reads : Passing) (name : List ℕ) (IsSo : TableParts → Labels → Type 0) : Type 0 where
@@ -67,12 +66,10 @@ Refuses Reads (Reference asked) refusal table labels =
     IsReferenceRefusal table.model (reference_ask_of asked).parts refusal
 Refuses Reads task refusal table labels = refusal ≡ NoMemory
 
--- the name has no table; of an IDL file it may be told what else is known
+-- the name has no table
 abbrev pub IsUnloaded : Passing → List ℕ → Fault → Type 0
 IsUnloaded Reads name (Refused refusal) = IsNotLoaded Reads name (named.Refused refusal)
-IsUnloaded Reads name (NotCompiled refusal) = IsNotLoaded Reads name (named.NotCompiled refusal)
-IsUnloaded Reads name (Explained refusal view) =
-    (refusal ≢ sources.NoMemory) × IsNotLoaded Reads name (named.NotCompiled refusal)
+IsUnloaded Reads name (NotCompiled fault source) = IsNotLoaded Reads name (named.NotCompiled fault source)
 IsUnloaded Reads name fault = ⊥
 
 -- the fault is that refusal of a table

@@ -7,7 +7,6 @@ ghost use Rattle.idlc_main.specs.Called.{IsConclusion};
 use crate::fault::Fault;
 use crate::listener::ErrorReader;
 use crate::times::Times;
-use crate::told::named_fault;
 use call_commands::{CallRefusal, CallTypes, Ending, TextCall, call_text};
 use call_sockets::Dialler;
 use command_files::load;
@@ -193,6 +192,6 @@ pub fn called<'a, R: WholeFiles + Net + Clock + Eprint + AllocGlobal>(
 ) -> Result<Concluded, Fault<'a>> {
     match load(rt, task.table) {
         Ok(loaded) => called_by(rt, task, &loaded, listener),
-        Err(fault) => Err(named_fault(rt, task.table, fault, listener)),
+        Err(fault) => Err(Fault::from(fault)),
     }
 }

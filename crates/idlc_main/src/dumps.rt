@@ -5,8 +5,6 @@ ghost use Rattle.idlc_main.specs.Dumps.{IsDumpEnd};
 ghost use Rattle.idlc_main.specs.Fault.{status_of};
 
 use crate::fault::Fault;
-use crate::listener::ErrorReader;
-use crate::told::named_fault;
 use command_files::load;
 use command_tables::WholeFiles;
 use command_words::DumpTask;
@@ -21,14 +19,13 @@ pub fn dumped<'a, R: WholeFiles + CaptureFiles + Clock + AllocGlobal, O: Write>(
     rt: &R,
     task: &DumpTask<'a>,
     out: &mut O,
-    listener: ErrorReader,
 ) -> Result<(), Fault<'a>>
     ensures status { IfErr result (λ fault. (status_of fault ≡ 3) ⊎ (out.new ≡ out.old)) }
     ensures output { IfErr result (λ fault. IsDumpEnd O.contents fault out.old out.new) }
 {
     let loaded = match load(rt, task.table) {
         Ok(loaded) => loaded,
-        Err(fault) => return Err(named_fault(rt, task.table, fault, listener)),
+        Err(fault) => return Err(Fault::from(fault)),
     };
     let names = CaptureNames {
         file: task.file,

@@ -2,12 +2,13 @@
 
 ghost use Rattle.std.specs.Prelude.{◌≡◌, ◌≤◌};
 ghost use Rattle.command_tables.specs.declared.refusal.Refusal.TheVariants.{NoMemory};
-ghost use Rattle.idlc_main.specs.Fault.{status_of_cause};
+ghost use Rattle.idlc_main.specs.Fault.{fault_of, status_of_cause};
 ghost use Rattle.idlc_main.specs.declared.fault.Fault.TheVariants.{Refused};
 
 use broker_sockets::ServeFault;
 use call_client::Cause;
 use call_commands::CallRefusal;
+use command_files::NamedFault;
 use command_tables::{Plain, Refusal};
 use command_words::Mistake;
 use giop_dumps::DumpFault;
@@ -58,12 +59,12 @@ pub enum Fault<'a> {
     /// A file, a table or what was asked of it; want of memory.
     #[error(transparent)]
     Refused(Refusal<'a>),
-    /// The IDL file has no table.
-    #[error(transparent)]
-    NotCompiled(CompileFault),
-    /// The same, with the lines of what else is known.
-    #[error("{refusal}\n{view}")]
-    Explained { refusal: CompileFault, view: String },
+    /// The IDL file, which was read as these octets, has no table.
+    #[error("{fault}")]
+    NotCompiled {
+        fault: CompileFault,
+        source: Vec<u8>,
+    },
     /// A text spells no reference, in digits or as a URL.
     #[error(transparent)]
     NotSpelled(SpellingFault),
@@ -72,7 +73,9 @@ pub enum Fault<'a> {
     NotDumped(CaptureFault<'a>),
     /// The object that is to be called has no operation of the name.
     #[error("no operation {}", Plain(.word))]
-    NoOperation { word: &'a str },
+    NoOperation {
+        word: &'a str,
+    },
     /// The arguments are none, what the server said is no answer, or no connection can be made to the
     /// object that is to be called, or it was lost before the answer.
     #[error("{}", CallText(.0))]
@@ -82,7 +85,9 @@ pub enum Fault<'a> {
     NotServed(ServeFault<'a>),
     /// No refusal has the number or the name whose meaning is asked for.
     #[error("no refusal has the {}", Meant(.word))]
-    NoRefusal { word: &'a str },
+    NoRefusal {
+        word: &'a str,
+    },
     /// Standard output can't be written.
     #[error("cannot write")]
     Unwritten,
@@ -110,7 +115,10 @@ impl<'a> Fault<'a> {
         match self {
             Fault::Words(Mistake::NoMemory) => 4,
             Fault::Refused(Refusal::NoMemory) => 4,
-            Fault::NotCompiled(CompileFault::NoMemory) => 4,
+            Fault::NotCompiled {
+                fault: CompileFault::NoMemory,
+                ..
+            } => 4,
             Fault::NotSpelled(SpellingFault::NoMemory) => 4,
             Fault::NotDumped(CaptureFault::NoMemory) => 4,
             Fault::NotServed(ServeFault::NoMemory) => 4,
@@ -140,5 +148,16 @@ impl<'a> From<AllocError> for Fault<'a> {
 
     fn from(_error: AllocError) -> Fault<'a> {
         Fault::Refused(Refusal::NoMemory)
+    }
+}
+
+impl<'a> From<NamedFault<'a>> for Fault<'a> {
+    ghost from_gives = { λ named fault. fault ≡ fault_of named };
+
+    fn from(fault: NamedFault<'a>) -> Fault<'a> {
+        match fault {
+            NamedFault::Refused(refusal) => Fault::Refused(refusal),
+            NamedFault::NotCompiled { fault, source } => Fault::NotCompiled { fault, source },
+        }
     }
 }

@@ -28,7 +28,7 @@ use crate::fault::Fault;
 use crate::known::known;
 use crate::listener::ErrorReader;
 use crate::service::run_service;
-use crate::tasks::{done, table_in};
+use crate::tasks::{done, file_in};
 use broker_sockets::Totals;
 use call_commands::ExceptionLine;
 use command_tables::{Refusal, WholeFiles};
@@ -53,16 +53,16 @@ const RAISED: u8 = 5;
 /// That of a call that failed with a system exception.
 const FAILED: u8 = 6;
 
-/// Tells a listener who wants it what else is known of a fault, of the table of a name.
+/// Tells a listener who wants it what else is known of a fault, of the file of a name.
 fn tell_known<R: WholeFiles + AllocGlobal, E: io::Write>(
     rt: &R,
     err: &mut E,
     fault: &Fault<'_>,
-    table: Option<&str>,
+    file: Option<&str>,
     listener: ErrorReader,
 ) {
-    if listener.look().is_some()
-        && let Ok(Some(lines)) = known(rt, fault, table)
+    if let Some(look) = listener.look()
+        && let Ok(Some(lines)) = known(rt, fault, look, file)
     {
         let _ = writeln!(err, "{lines}");
     }
@@ -73,7 +73,7 @@ fn failed<R: WholeFiles + AllocGlobal, E: io::Write>(
     rt: &R,
     err: &mut E,
     fault: &Fault<'_>,
-    table: Option<&str>,
+    file: Option<&str>,
     listener: ErrorReader,
 ) -> u8
     ensures { result ≡ status_of fault.now }
@@ -83,7 +83,7 @@ fn failed<R: WholeFiles + AllocGlobal, E: io::Write>(
         fault if fault.is_of_output() => Ok(()),
         _ => writeln!(err, "idlc: {fault}"),
     };
-    tell_known(rt, err, fault, table, listener);
+    tell_known(rt, err, fault, file, listener);
     fault.status()
 }
 
@@ -173,11 +173,11 @@ pub fn run<
     let listener = listener.asking(line.explains);
     match line.said {
         Said::Help(text) => say(out, err, &told::TaskOutput::plain(text)),
-        Said::Do(task) => match done(rt, &task, listener) {
+        Said::Do(task) => match done(rt, &task) {
             Ok(answer) => say(out, err, &answer),
-            Err(fault) => failed(rt, err, &fault, table_in(&task), listener),
+            Err(fault) => failed(rt, err, &fault, file_in(&task), listener),
         },
-        Said::Serve(service) => match run_service(rt, out, &service, listener) {
+        Said::Serve(service) => match run_service(rt, out, &service) {
             Ok(totals) => tell(err, &totals, listener),
             Err(fault) => failed(rt, err, &fault, Some(service.table), listener),
         },
@@ -185,7 +185,7 @@ pub fn run<
             Ok(concluded) => conclude(out, err, &concluded),
             Err(fault) => failed(rt, err, &fault, Some(task.table), listener),
         },
-        Said::Dump(task) => match dumped(rt, &task, out, listener) {
+        Said::Dump(task) => match dumped(rt, &task, out) {
             Ok(()) => DONE,
             Err(fault) => failed(rt, err, &fault, Some(task.table), listener),
         },

@@ -8,8 +8,6 @@ ghost use Rattle.idlc_main.specs.Fault.{status_of};
 ghost use Rattle.idlc_main.specs.Service.{IsServed};
 
 use crate::fault::Fault;
-use crate::listener::ErrorReader;
-use crate::told::named_fault;
 use broker_sockets::{ServeOptions, Totals, serve};
 use command_files::load;
 use command_tables::WholeFiles;
@@ -23,7 +21,6 @@ pub fn run_service<'a, R: WholeFiles + Net + Clock + Eprint + AllocGlobal, O: Wr
     rt: &R,
     out: &mut O,
     service: &Service<'a>,
-    listener: ErrorReader,
 ) -> Result<Totals, Fault<'a>>
     ensures done { OnOk result (IsServed (R.reads rt.now) service.now) }
     ensures counted { IfOk result (λ totals. totals.connections ≡ service.now.connections) }
@@ -34,7 +31,7 @@ pub fn run_service<'a, R: WholeFiles + Net + Clock + Eprint + AllocGlobal, O: Wr
 {
     let loaded = match load(rt, service.table) {
         Ok(loaded) => loaded,
-        Err(fault) => return Err(named_fault(rt, service.table, fault, listener)),
+        Err(fault) => return Err(Fault::from(fault)),
     };
     let options = ServeOptions {
         port: service.port,

@@ -11,8 +11,7 @@ ghost use Rattle.idlc_main.specs.Tables.{Answers, AnswersBy, IsRefusalBy, Refuse
 
 use crate::descriptions::described;
 use crate::fault::Fault;
-use crate::listener::ErrorReader;
-use crate::told::{Notice, TaskOutput, named_fault, source_fault};
+use crate::told::{Notice, TaskOutput};
 use command_files::load;
 use command_tables::{
     Refusal, WholeFiles, input_of, read_file, reference_line, upgrade, write_file,
@@ -137,7 +136,6 @@ fn compile<'a, R: WholeFiles + AllocGlobal>(
     rt: &R,
     name: &'a str,
     output: &'a str,
-    listener: ErrorReader,
 ) -> Result<TaskOutput, Fault<'a>>
     ensures answers { IsAnswer (R.reads rt.now) (R.takes rt.now) (Compile name.now output.now) result }
     ensures told { IfErr result IsTold }
@@ -148,9 +146,7 @@ fn compile<'a, R: WholeFiles + AllocGlobal>(
     };
     let file = match compile_file(rt.alloc(), source.as_slice()) {
         Ok(file) => file,
-        Err(refusal) => {
-            return Err(source_fault(rt.alloc(), name, source.as_slice(), refusal, listener));
-        }
+        Err(fault) => return Err(Fault::NotCompiled { fault, source }),
     };
     match put_compiled(rt, output, source.as_slice(), &file) {
         Ok(()) => Ok(TaskOutput {
@@ -165,21 +161,20 @@ fn compile<'a, R: WholeFiles + AllocGlobal>(
     }
 }
 
-/// The name of the table that a task is about.
-pub fn table_in<'a>(task: &Task<'a>) -> Option<&'a str> {
+/// The name of the table or the IDL file that a task is about.
+pub fn file_in<'a>(task: &Task<'a>) -> Option<&'a str> {
     match task {
         Task::Table(task) => Some(task.table()),
         Task::Upgrade { table, .. } => Some(table),
-        Task::Compile { .. } | Task::Explain { .. } | Task::Describe { .. } => None,
+        Task::Compile { source, .. } => Some(source),
+        Task::Explain { .. } | Task::Describe { .. } => None,
     }
 }
 
-/// Does what is asked for, and gives the text for standard output. A fault of an IDL file has with it
-/// what else is known, for a listener who wants that.
+/// Does what is asked for, and gives the text for standard output.
 pub fn done<'a, R: WholeFiles + AllocGlobal>(
     rt: &R,
     task: &Task<'a>,
-    listener: ErrorReader,
 ) -> Result<TaskOutput, Fault<'a>>
     ensures answers { IsAnswer (R.reads rt.now) (R.takes rt.now) (ask_of task.now) result }
     ensures told { IfErr result IsTold }
@@ -187,12 +182,12 @@ pub fn done<'a, R: WholeFiles + AllocGlobal>(
     match task {
         Task::Table(task) => match load(rt, task.table()) {
             Ok(loaded) => answered(rt, task, &loaded),
-            Err(fault) => Err(named_fault(rt, task.table(), fault, listener)),
+            Err(fault) => Err(Fault::from(fault)),
         },
         Task::Explain { word: Some(word) } => explained(rt, word),
         Task::Explain { word: None } => listed(rt),
         Task::Describe { reference } => described(rt, reference),
         Task::Upgrade { table, output } => upgraded(rt, table, output),
-        Task::Compile { source, output } => compile(rt, source, output, listener),
+        Task::Compile { source, output } => compile(rt, source, output),
     }
 }

@@ -3,6 +3,4 @@ use Rattle.idlc_main.proofs.dumps.dumped.Goals as goal
 
 pub returns-in-Err-clause-output : goal.returns-in-Err-clause-output
 returns-in-Err-clause-output g c =
-    unloaded_end g.O.Write.contents (g.R.WholeFiles.reads c.args.rt.now) c.args.task.now.table.now c.named_fault.result
-    c.args.out.now
-    c.named_fault.ensures.is
+    unloaded_end g.O.Write.contents c.in-Err.fault c.from.result c.args.out.now c.from.ensures

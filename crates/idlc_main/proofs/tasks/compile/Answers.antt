@@ -1,6 +1,5 @@
 use Rattle.std.proofs.Common.{inl, inr, refl, subst}
 use Rattle.idl_compiler.specs.Files.{IsCompiledFile, IsRefusedFile}
-use Rattle.idlc_main.proofs.Compiles.{no_file}
 use Rattle.idlc_main.proofs.tasks.compile.Goals as goal
 
 pub returns-in-Err-clause-answers : goal.returns-in-Err-clause-answers
@@ -9,14 +8,11 @@ returns-in-Err-clause-answers g c = record { line = tt; fault = inl c.in-Err.ens
 pub returns-in-Err-compile_file-clause-answers : goal.returns-in-Err-compile_file-clause-answers
 returns-in-Err-compile_file-clause-answers g c = record {
   line = tt;
-  fault = no_file (g.R.WholeFiles.reads c.args.rt.now) c.args.name.now c.args.output.now c.in-Err-compile_file.refusal
-      c.source_fault.result c.source_fault.ensures
-      (record {
-        octets = c.in-Ok.octets.items;
-        read = c.in-Ok.ensures.read;
-        refused = subst (λ octets. IsRefusedFile octets c.in-Err-compile_file.refusal) c.as_slice.ensures.value
-            c.in-Err-compile_file.ensures.refused;
-      });
+  fault = (
+    c.in-Ok.ensures.read,
+    subst (λ octets. IsRefusedFile octets c.in-Err-compile_file.fault) c.as_slice.ensures.value
+        c.in-Err-compile_file.ensures.refused,
+  );
 }
 
 pub returns-in-Ok-put_compiled-clause-answers : goal.returns-in-Ok-put_compiled-clause-answers

@@ -10,4 +10,4 @@ returns-in-Ok-clause-answers g c =
 pub returns-in-Err-clause-answers : goal.returns-in-Err-clause-answers
 returns-in-Err-clause-answers g c =
     no_answer (g.R.WholeFiles.reads c.args.rt.now) (g.R.WholeFiles.takes c.args.rt.now) c.in-Table.task.now
-    c.named_fault.result c.named_fault.ensures.is
+    c.in-Err.fault c.from.result c.from.ensures c.in-Err.ensures.refused
