@@ -18,7 +18,7 @@ fn wanted<'a>(alloc: Global, id: &'a str, help: &'a str) -> Arg<'a>
 
 const TABLE: &str = "A table file, an IDL file (not for upgrade), or builtin, the sample table";
 
-const VERSION: &str = "0.1.0";
+const VERSION: &str = "0.2.0";
 
 /// What `compile` serves of IDL, and what it doesn't.
 const SERVED: &str = "Served: modules, interfaces and their bases, operations, oneway ones too, \
@@ -76,7 +76,7 @@ fn tape_word<'a>(alloc: Global) -> Arg<'a>
     ensures rule { rule_of result ≡ new_rule (codes "HEX") }
     ensures local { result.global ≡ false }
 {
-    Arg::new(alloc, "HEX").help("The value's tape; or else --text")
+    Arg::new(alloc, "HEX").help("The value's tape, or use --text")
 }
 
 /// The option for the text of a value.
@@ -133,7 +133,7 @@ fn output_option<'a>(alloc: Global, value: &'a str) -> Arg<'a>
     Arg::new(alloc, "o")
         .short('o')
         .value_name(value)
-        .help("The file for the table")
+        .help("The file that the table is written to")
         .required(true)
 }
 
@@ -144,7 +144,7 @@ fn types_flag<'a>(alloc: Global) -> Arg<'a>
 {
     Arg::new(alloc, "types")
         .long("types")
-        .help("Shows too what the text of a value of each type looks like")
+        .help("Also shows what the text of a value of each type looks like")
         .action(ArgAction::SetTrue)
 }
 
@@ -241,7 +241,7 @@ fn connections_option<'a>(alloc: Global) -> Arg<'a>
     ensures rule { rule_of result ≡ option_rule (codes "connections") (Some (Signed (pos 0) (pos 4294967295))) }
     ensures local { result.global ≡ false }
 {
-    let help = "So many connections are served";
+    let help = "The number of connections to serve";
     option(alloc, "connections", "N", help).value_parser(value_parser!(u32))
 }
 
@@ -253,7 +253,7 @@ fn at_once_option<'a>(alloc: Global) -> Arg<'a>
     Arg::new(alloc, "at-once")
         .long("at-once")
         .value_name("M")
-        .help("At most so many at the same time, 1 to 64; else one after the other")
+        .help("How many connections are served at a time, 1 to 64; 1 by default")
         .value_parser(value_parser!(u8).range(1..65))
 }
 
@@ -265,7 +265,9 @@ fn idle_option<'a>(alloc: Global) -> Arg<'a>
     Arg::new(alloc, "idle")
         .long("idle")
         .value_name("S")
-        .help("A connection silent or slow for so many seconds ends, 0 to 86400; 0 or else: none")
+        .help(
+            "Ends a connection that is silent or slow for SECONDS, at most 86400; by default none",
+        )
         .value_parser(value_parser!(u32).range(0..86401))
 }
 
@@ -349,7 +351,7 @@ fn order_option<'a>(alloc: Global, orders: &'a [&'a str]) -> Arg<'a>
     Arg::new(alloc, "order")
         .long("order")
         .value_name("ORDER")
-        .help("The byte order of the request; else big")
+        .help("The byte order of the request; big by default")
         .value_parser(orders)
 }
 
@@ -361,7 +363,7 @@ fn wait_option<'a>(alloc: Global) -> Arg<'a>
     Arg::new(alloc, "wait")
         .long("wait")
         .value_name("S")
-        .help("A call may take so many seconds, 1 to 86400; else 30")
+        .help("The seconds that a call may take, 1 to 86400; 30 by default")
         .value_parser(value_parser!(u32).range(1..86401))
 }
 
@@ -373,7 +375,7 @@ fn repeat_option<'a>(alloc: Global) -> Arg<'a>
     Arg::new(alloc, "repeat")
         .long("repeat")
         .value_name("N")
-        .help("Calls so often, and tells how long that took")
+        .help("The number of calls; prints how long they took")
         .value_parser(value_parser!(u32).range(1..4294967296))
 }
 
@@ -435,9 +437,9 @@ fn commands_of_calls<'a>(alloc: Global, orders: &'a [&'a str]) -> Result<Command
     let explain = explain_command(alloc)?;
     let explains = objects.subcommand(explain.about("Says what a refusal means"))?;
     let describe = describe_command(alloc)?;
-    let describes = explains.subcommand(describe.about("Says what a reference says"))?;
+    let describes = explains.subcommand(describe.about("Lists what a reference says"))?;
     let call = call_command(alloc, orders)?;
-    describes.subcommand(call.about("Calls an object, and prints what it replies"))
+    describes.subcommand(call.about("Calls an operation of an object, and prints the reply"))
 }
 
 /// The whole program.
@@ -446,5 +448,5 @@ pub(crate) fn program<'a>(alloc: Global, orders: &'a [&'a str]) -> Result<Comman
 {
     let calls = commands_of_calls(alloc, orders)?;
     let dump = dump_command(alloc)?;
-    calls.subcommand(dump.about("Tells what a capture of messages says"))
+    calls.subcommand(dump.about("Prints the messages of a capture"))
 }
