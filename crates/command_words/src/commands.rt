@@ -266,7 +266,7 @@ fn idle_option<'a>(alloc: Global) -> Arg<'a>
         .long("idle")
         .value_name("S")
         .help(
-            "Ends a connection that is silent or slow for SECONDS, at most 86400; by default none",
+            "Ends a connection that is silent or slow for S seconds, at most 86400; by default none",
         )
         .value_parser(value_parser!(u32).range(0..86401))
 }
