@@ -1,4 +1,4 @@
-"""The tests that stand beside the gate: each is a folder of tests/ with a file `about`.
+"""The tests that stand beside the gate: each is a folder tests/GROUP/NAME with a file `about`; wrong_bodies has no group.
 
 `about` has lines `KEY: VALUE`:
 
@@ -55,6 +55,15 @@ def missing_tools(about):
     return [tool for tool in wanted if not (shutil.which(tool) or pathlib.Path(tool).is_file())]
 
 
+def test_folders():
+    """The folder of each test by its name."""
+    abouts = sorted([*TESTS.glob("*/about"), *TESTS.glob("*/*/about")], key=lambda it: it.parent.name)
+    found = {about.parent.name: about.parent for about in abouts}
+    if len(found) < len(abouts):
+        raise ValueError("two tests have one name")
+    return found
+
+
 class Test:
     """A test, and what it needs to run: a clock, copies of crates, a scratch folder; how many commands it may run at
     a time."""
@@ -63,6 +72,7 @@ class Test:
         about = read_about(folder)
         self.folder = folder
         self.name = folder.name
+        self.group = None if folder.parent == TESTS else folder.parent.name
         self.part = part
         self.shows = about["shows"]
         self.minutes = float(about["minutes"])
@@ -114,20 +124,26 @@ class Test:
 
 
 def all_tests():
-    return [Test(about.parent) for about in sorted(TESTS.glob("*/about"))]
+    return [Test(folder) for folder in test_folders().values()]
 
 
 def tests_named(words):
-    """The tests of these names, each `NAME` or `NAME/PART`; a name that is none gives a KeyError."""
-    folders = {test.name: test.folder for test in all_tests()}
-    rows = [word.partition("/") for word in words]
-    return [Test(folders[name], part or None) for name, _, part in rows]
+    """The tests of these names, each `NAME` or `NAME/PART`, or a group, which stands for its tests that aren't long; a
+    name that is none gives a KeyError."""
+    known, found = test_folders(), []
+    for name, _, part in (word.partition("/") for word in words):
+        of_group = [test for test in all_tests() if test.group == name and not test.is_long and not part]
+        found += of_group or [Test(known[name], part or None)]
+    return found
 
 
 def tell_list():
-    for test in sorted(all_tests(), key=lambda it: (it.is_long, it.name)):
-        notes = ["long"] * test.is_long + [f"wants {test.wants}"] * bool(test.wants)
-        print(f"{test.name:20} {test.minutes:5.1f} min  {test.shows}" + (f" ({', '.join(notes)})" if notes else ""))
+    tests = all_tests()
+    for group in sorted({test.group or "" for test in tests}):
+        print(f"{group or 'without a group'}:")
+        for test in (it for it in tests if (it.group or "") == group):
+            notes = ["long"] * test.is_long + [f"wants {test.wants}"] * bool(test.wants)
+            print(f"  {test.name:20} {test.minutes:5.1f} min  {test.shows}" + (f" ({', '.join(notes)})" if notes else ""))
 
 
 def run_one(test, work):

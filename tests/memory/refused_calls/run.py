@@ -7,7 +7,7 @@ the number MOST - D of the calls. A part is a number N: of N allocations one is 
 import collections
 import re
 
-from driver.suite import TESTS, Count
+from driver.suite import Count, test_folders
 
 # more than there are
 MOST = 2500
@@ -21,7 +21,7 @@ def write_cases(folder, every):
 
 
 def run(test):
-    sources = [*test.sources(), TESTS / "broker" / "counter.rt.in"]
+    sources = [*test.sources(), test_folders()["broker"] / "counter.rt.in"]
     crate = test.workspace().add_crate("refused_calls", sources)
     write_cases(test.room / "cases", int(test.part or 1))
     done = test.call(["rt", "try", "--steps", 1, "--fail-alloc", MOST, "--cases", test.room / "cases"], cwd=crate)

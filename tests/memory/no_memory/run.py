@@ -17,10 +17,11 @@ import dataclasses
 import re
 
 from driver.sources import Function, calls_that_take_memory, functions_of
-from driver.suite import TESTS, Count, read_about
+from driver.suite import Count, read_about, test_folders
 from driver.workspace import TOP, listed_crates
 
-PLANTED = TESTS / "no_memory" / "planted"
+FOLDERS = test_folders()
+PLANTED = FOLDERS["no_memory"] / "planted"
 
 # a test: the comment above it, its mark with `fn`, the blanks before these, its name, the rest
 TEST = re.compile(r"((?: *///.*\n)*)(( *)#\[test\]\n *fn )(\w+)(\(.*\{\n(?s:.*?)^\3\}\n)", re.MULTILINE)
@@ -122,8 +123,8 @@ def repeat_tests(path, calls):
 
 def crate_of_tests(workspace, folder, calls):
     """Makes the crate of a folder's tests. Returns its folder."""
-    sources = sorted((TESTS / folder).glob("*.rt.in"))
-    crate = workspace.add_tests(folder, sources, read_about(TESTS / folder).get("within"))
+    sources = sorted(FOLDERS[folder].glob("*.rt.in"))
+    crate = workspace.add_tests(folder, sources, read_about(FOLDERS[folder]).get("within"))
     for path in (crate / "src").glob("*.rt"):
         module = "tests" if path.stem == "lib" else path.stem
         repeat_tests(path, [call for call in calls if call.module == module])
