@@ -7,7 +7,7 @@ import itertools
 import os
 import re
 
-from driver.suite import Count
+from driver.suite import TESTS, Count, all_tests
 from driver.workspace import TOP, listed_crates
 
 CRATES = TOP / "crates"
@@ -16,7 +16,7 @@ NAMED = re.compile(r"`([\w./{},-]+(?:\.(?:antt|rt|py|edit|md|idl)|/))`|\b([a-z][
 
 
 def documents():
-    return [*TOP.glob("*.md"), *(TOP / "docs").glob("*.md"), *CRATES.glob("*/README.md")]
+    return [*TOP.glob("*.md"), *(TOP / "docs").glob("*.md"), *CRATES.glob("*/README.md"), TOP / "examples" / "README.md", TESTS / "README.md"]
 
 
 def names_of_files():
@@ -52,6 +52,16 @@ def add_files(count):
             places = [TOP / path, CRATES / path, document.parent / path, CRATES / crate / path]
             is_there = any(it.exists() for it in places) or "/" not in path.rstrip("/") and path.rstrip("/") in names
             count.add(is_there, f"{document.relative_to(TOP)}: no file {path} of {crate}")
+
+
+def add_tests(count):
+    """The tests that the documents name by `tests/run NAME ..`, one that has parts also by NAME/PART."""
+    tests = all_tests()
+    names = {"NAME", *(test.name for test in tests), *(test.group for test in tests)}
+    for document in documents():
+        for words in re.findall(r"tests/run((?: [a-z][\w/.]*| NAME)+)", document.read_text()):
+            for name in words.split():
+                count.add(name.partition("/")[0] in names, f"{document.relative_to(TOP)}: no test {name}")
 
 
 def add_words(count):
@@ -106,6 +116,7 @@ def run(test):
     count = Count(0, [])
     add_groups(count)
     add_files(count)
+    add_tests(count)
     add_words(count)
     for crate, module, name in steps((TOP / "docs" / "ARCHITECTURE.md").read_text(), listed_crates()):
         count.add(is_function(crate, module, name), f"docs/ARCHITECTURE.md: no function {crate}::{module}::{name}")
