@@ -118,17 +118,25 @@ def visit(server, place):
     return found
 
 
+def stale(numbers):
+    """Those of the numbers that a client reads that no client has set, or that were set before one that it has read."""
+    latest, found = {}, []
+    for number in numbers:
+        client, turn = divmod(number, CALLS)
+        if not 0 <= client < 64 or turn < latest.get(client, 0):
+            found.append(number)
+        latest[client] = turn
+    return found
+
+
 def sixty_four(table, count):
     """Each reads what some client has set, and of one what it set first it reads no more once it read a later one."""
     server = Server(table, 65, "--at-once", "64")
     with concurrent.futures.ThreadPoolExecutor(64) as pool:
         found = list(pool.map(lambda place: visit(server, place), range(64)))
     for place, numbers in enumerate(found):
-        latest = {}
-        for number in numbers:
-            client, turn = divmod(number, CALLS)
-            count.add(0 <= client < 64 and latest.get(client, 0) <= turn, f"client {place} read {number}")
-            latest[client] = turn
+        wrong = stale(numbers)
+        count.add(len(numbers) == CALLS and not wrong, f"client {place} read {len(numbers)} numbers, wrong are {wrong[:9]}")
     with server.connect() as stream:
         last = number_in(call(stream, 1, "_get_visits"))
     count.add(last % CALLS == CALLS - 1, f"{last} is the last of no client")
@@ -159,9 +167,8 @@ def few_files(table, count):
     count.add(told == (0, "", "idlc: no connection can be accepted, trying again\n"), f"where files are wanting: {told}")
 
 
-def no_files(table):
+def no_files(table, count):
     """A client is served on for longer than accepts are tried again where nobody is there: silent ones have all files."""
-    count = Count(0, [])
     server = Server(table, 32, "--at-once", "64", files=16)
     answers = 0
     with server.connect() as served:
@@ -182,17 +189,15 @@ def no_files(table):
     out, err = server.process.communicate(timeout=60)
     told = (server.process.returncode, out, err)
     count.add(told == (0, "", "idlc: no connection can be accepted, trying again\n"), f"where files are wanting for long: {told}")
-    return count
 
 
-def idle(table, count):
-    for words in (("--idle", "1"), ("--idle", "1", "--at-once", "2")):
-        server = Server(table, 2, *words)
-        with server.connect() as silent:
-            count.add(received(silent, 12) == CLOSE and silent.recv(1) == b"", "a silent client is let go of")
-        with server.connect() as stream:
-            count.add(call(stream, 1, "ping") == b"", "behind an idle client")
-        count.add(server.end() == (0, True), "after an idle client")
+def idle(table, count, *words):
+    server = Server(table, 2, *words)
+    with server.connect() as silent:
+        count.add(received(silent, 12) == CLOSE and silent.recv(1) == b"", "a silent client is let go of")
+    with server.connect() as stream:
+        count.add(call(stream, 1, "ping") == b"", "behind an idle client")
+    count.add(server.end() == (0, True), "after an idle client")
 
 
 def dripping(stream, octets, pause):
@@ -239,28 +244,25 @@ def sipping(stream, seconds):
     return got
 
 
-def slow_readers(table, count):
+def slow_readers(table, count, clients, *words):
     """The same behind clients that read a large answer slowly."""
-    clients = 8
-    for words in (("--at-once", str(clients)), ()):
-        there = clients if words else 1
-        server = Server(table, there + 1, *words, "--idle", "2")
-        slow = [server.connect(room=4096) for _ in range(there)]
-        asked = request(1, "echo", text(bytes([65]) * 1000000))
-        with concurrent.futures.ThreadPoolExecutor(there) as pool:
-            list(pool.map(lambda stream: stream.sendall(asked), slow))
-            sips = [pool.submit(sipping, stream, 15) for stream in slow]
-            start = time.monotonic()
-            with server.connect() as stream:
-                count.add(call(stream, 1, "ping") == b"", "behind slow readers")
-            waited = time.monotonic() - start
-            count.add(waited < 5, f"it waited for {waited:.1f} seconds behind slow readers")
-            for sip in sips:
-                # on a busy host its request may be late before it has an answer
-                count.add(sip.result()[:4] == b"GIOP", "a slow reader gets a front of an answer, or CloseConnection")
-        for stream in slow:
-            stream.close()
-        count.add(server.end() == (0, True), "after slow readers")
+    server = Server(table, clients + 1, *words, "--idle", "2")
+    slow = [server.connect(room=4096) for _ in range(clients)]
+    asked = request(1, "echo", text(bytes([65]) * 1000000))
+    with concurrent.futures.ThreadPoolExecutor(clients) as pool:
+        list(pool.map(lambda stream: stream.sendall(asked), slow))
+        sips = [pool.submit(sipping, stream, 15) for stream in slow]
+        start = time.monotonic()
+        with server.connect() as stream:
+            count.add(call(stream, 1, "ping") == b"", "behind slow readers")
+        waited = time.monotonic() - start
+        count.add(waited < 5, f"it waited for {waited:.1f} seconds behind slow readers")
+        for sip in sips:
+            # on a busy host its request may be late before it has an answer
+            count.add(sip.result()[:4] == b"GIOP", "a slow reader gets a front of an answer, or CloseConnection")
+    for stream in slow:
+        stream.close()
+    count.add(server.end() == (0, True), "after slow readers")
 
 
 def read_to_end(stream):
@@ -274,16 +276,15 @@ def read_to_end(stream):
     return octets
 
 
-def unread(table, count):
+def unread(table, count, *words):
     """Who sends more behind what is no message gets the answer to that, and the end."""
-    for words in ((), ("--at-once", "2")):
-        server = Server(table, 2, *words)
-        for _ in range(2):
-            with server.connect() as stream:
-                stream.sendall(request(1, "ping") + b"GIOP\x01\x00\x00\x00" + bytes(300000))
-                got = read_to_end(stream)
-            count.add(got is not None and got[-12:] == ERROR, f"{words}: {got}")
-        count.add(server.end() == (0, True), f"{words}: after octets that stay unread")
+    server = Server(table, 2, *words)
+    for _ in range(2):
+        with server.connect() as stream:
+            stream.sendall(request(1, "ping") + b"GIOP\x01\x00\x00\x00" + bytes(300000))
+            got = read_to_end(stream)
+        count.add(got is not None and got[-12:] == ERROR, f"behind what is no message: {got}")
+    count.add(server.end() == (0, True), "after octets that stay unread")
 
 
 def text(octets):
@@ -319,30 +320,27 @@ def bounded(table, count):
     count.add(server.end() == (0, True), "after 64 large requests")
 
 
-def status_line(table, count):
+def status_line(table, count, *words):
     """Who looks at a terminal is told how much was served."""
-    for words in ((), ("--at-once", "2")):
-        terminal, err = pty.openpty()
-        server = Server(table, 2, *words, err=err)
-        with server.connect() as stream:
-            call(stream, 1, "ping")
-            stream.sendall(request(2, "none"))
-            received(stream, struct.unpack(">I", received(stream, 12)[8:])[0])
-        with server.connect() as stream:
-            stream.sendall(b"GIOP\x01\x00\x00\x00" + bytes(4))
-            read_to_end(stream)
-        server.process.communicate(timeout=60)
-        os.close(err)
-        told = os.read(terminal, 4096).decode()
-        os.close(terminal)
-        wanted = "idlc: served: connections 2, requests 3, answers 2, refused 2\r\n"
-        count.add(told == wanted, f"{words}: {told!r}")
+    terminal, err = pty.openpty()
+    server = Server(table, 2, *words, err=err)
+    with server.connect() as stream:
+        call(stream, 1, "ping")
+        stream.sendall(request(2, "none"))
+        received(stream, struct.unpack(">I", received(stream, 12)[8:])[0])
+    with server.connect() as stream:
+        stream.sendall(b"GIOP\x01\x00\x00\x00" + bytes(4))
+        read_to_end(stream)
+    server.process.communicate(timeout=60)
+    os.close(err)
+    told = os.read(terminal, 4096).decode()
+    os.close(terminal)
+    wanted = "idlc: served: connections 2, requests 3, answers 2, refused 2\r\n"
+    count.add(told == wanted, f"it told {told!r}")
 
 
 def orb(table, count, room):
-    """Eight clients of omniORB, each with calls and a text in fragments."""
-    if not (shutil.which("omniidl") and shutil.which("g++")):
-        return
+    """Eight clients of omniORB, each with calls and a text in fragments; one at a time, and all at the same time."""
     folder = os.path.dirname(os.path.abspath(__file__))
     subprocess.run(["omniidl", "-bcxx", TOP / "examples" / "idl" / "hello.idl"], cwd=room, check=True)
     words = ["g++", "-o", "orb_client", f"{folder}/orb_client.cc", "helloSK.cc", "-I.", "-lomniORB4", "-lomnithread"]
@@ -368,21 +366,47 @@ def usage(table, count):
             count.add((done.returncode, done.stdout, not done.stderr) == wanted, f"{option} {value}: {done}")
 
 
+SCENARIOS = (
+    (one_silent,),
+    (sixty_four,),
+    (bounded,),
+    (breaking_off,),
+    (few_files,),
+    (idle, "--idle", "1"),
+    (idle, "--idle", "1", "--at-once", "2"),
+    (slow_senders,),
+    (slow_readers, 8, "--at-once", "8"),
+    (slow_readers, 1),
+    (unread,),
+    (unread, "--at-once", "2"),
+    (status_line,),
+    (status_line, "--at-once", "2"),
+    (usage,),
+)
+
+
+def tried(table, scenario):
+    """A scenario is one case, which passes where all that it looks at is right."""
+    part, *given = scenario
+    seen = Count(0, [])
+    part(table, seen, *given)
+    label = " ".join([part.__name__, *map(str, given)])
+    return Count(int(seen.passed > 0 and not seen.failures), [f"{label}: {failure}" for failure in seen.failures])
+
+
 def run(test):
     built = test.call([TOP / "idlc", "check", "builtin"])
     if built.status:
         return Count(0, [built.out + built.err])
-    count = Count(0, [])
     table = test.room / "hello.table"
     made = test.call([PROGRAM, "compile", TOP / "examples" / "idl" / "hello.idl", "-o", table])
-    count.add(made.status == 0, f"hello.idl: {made.err}")
+    count = Count(0, [f"hello.idl: {made.err}"] if made.status else [])
+    scenarios = [*SCENARIOS, *([(orb, test.room)] if shutil.which("omniidl") and shutil.which("g++") else [])]
     with concurrent.futures.ThreadPoolExecutor(1) as pool:
         # it takes a minute, and next to no processor
-        long = pool.submit(no_files, table)
-        for part in (one_silent, sixty_four, bounded, breaking_off, few_files, idle, slow_senders, slow_readers, unread, status_line, usage):
-            part(table, count)
-        orb(table, count, test.room)
-        there = long.result()
-    count.passed += there.passed
-    count.failures += there.failures
+        long = pool.submit(tried, table, (no_files,))
+        found = [tried(table, scenario) for scenario in scenarios]
+        found.append(long.result())
+    count.passed += sum(it.passed for it in found)
+    count.failures += [failure for it in found for failure in it.failures]
     return count
