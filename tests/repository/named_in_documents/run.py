@@ -1,4 +1,5 @@
-"""Looks up the files, and the functions of walks, that the documents name, and the groups of the crates.
+"""Looks up the files, the tests and the functions that the documents name, holds the walks to the calls in the sources,
+and the lists of crates to crates.txt.
 
 A file with a folder stands in the crate that was named before it on its line, in the repository, or beside the document;
 one without may be anywhere. The walks of docs/ARCHITECTURE.md are lines `CRATE::MODULE::FUNCTION, ..  what it does`.
@@ -7,6 +8,7 @@ import itertools
 import os
 import re
 
+from driver.calls import functions_at, places_of
 from driver.suite import TESTS, Count, all_tests
 from driver.workspace import TOP, listed_crates
 
@@ -71,23 +73,47 @@ def add_words(count):
         count.add(path.exists(), f"docs/GLOSSARY.md: no file {crate}{mark}{name}")
 
 
-def steps(text, crates):
-    """The functions that the walks name: crate, module and name, crate and module of the one before where they lack."""
+def steps(walk, crates):
+    """The lines of a walk, each with its functions: crate, module and name, crate and module of the one before where
+    they lack."""
     crate = module = ""
-    for line in re.findall(r"^([a-z_]+::.*?)(?:  |$)", text, re.M):
-        for name in line.split(", "):
+    for line in walk.splitlines():
+        found = []
+        for name in re.match(r"(.*?)(?:  |$)", line)[1].split(", "):
             path = [part for part in name.split("::") if part[0].islower()]
             if path[0] in crates:
                 crate, module, path = path[0], "", path[1:]
             if len(path) > 1:
                 module = path[-2]
-            yield crate, module, path[-1]
+            found.append((crate, module, path[-1]))
+        yield found
 
 
-def is_function(crate, module, name):
-    """Whether a module of a crate, or any of it where none is named, has such a function."""
-    files = (CRATES / crate / "src").rglob("*.rt")
-    return any(re.search(rf"\bfn {name}\b", file.read_text()) for file in files if module in ("", *file.parts, file.stem))
+def caller_of(calls, functions, listed, least):
+    """Which of the calls that aren't over, from the one of this depth on, calls a function next, and at which place."""
+    for depth in range(len(calls) - 1, least - 1, -1):
+        callers, behind = calls[depth]
+        places = [place for place in places_of(callers, functions, listed) if place >= behind]
+        if places:
+            return depth, min(places)
+    return None
+
+
+def add_walk(count, walk, crates):
+    """Each function of a walk is called by one before it that isn't over, behind what that calls before; those behind the
+    first of a line each by the one before it there. Helpers that are left out may stand between two."""
+    lines = [[("::".join(filter(None, step)), functions_at(*step)) for step in line] for line in steps(walk, crates)]
+    listed = {it for line in lines for _, functions in line for it in functions}
+    # the calls that aren't over, the outermost first, each with the place in it up to which all was called
+    calls = []
+    for line in lines:
+        for at, (label, functions) in enumerate(line):
+            count.add(functions, f"docs/ARCHITECTURE.md: no function {label}")
+            found = caller_of(calls, functions, listed, len(calls) - 1 if at else 0)
+            if found:
+                calls[found[0] :] = [(calls[found[0]][0], found[1])]
+            count.add(found or not calls, f"docs/ARCHITECTURE.md: {label} is called by none before it, or earlier")
+            calls.append((functions, 0))
 
 
 def listed_groups():
@@ -118,6 +144,8 @@ def run(test):
     add_files(count)
     add_tests(count)
     add_words(count)
-    for crate, module, name in steps((TOP / "docs" / "ARCHITECTURE.md").read_text(), listed_crates()):
-        count.add(is_function(crate, module, name), f"docs/ARCHITECTURE.md: no function {crate}::{module}::{name}")
+    walks = re.findall(r"^```\n([a-z_]+::.*?)^```", (TOP / "docs" / "ARCHITECTURE.md").read_text(), re.M | re.S)
+    count.add(len(walks) == 3, f"docs/ARCHITECTURE.md: {len(walks)} walks")
+    for walk in walks:
+        add_walk(count, walk, listed_crates())
     return count
