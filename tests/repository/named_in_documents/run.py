@@ -4,6 +4,7 @@ and the lists of crates to crates.txt.
 A file with a folder stands in the crate that was named before it on its line, in the repository, or beside the document;
 one without may be anywhere. The walks of docs/ARCHITECTURE.md are lines `CRATE::MODULE::FUNCTION, ..  what it does`.
 """
+import collections
 import itertools
 import os
 import re
@@ -127,20 +128,47 @@ def listed_groups():
     return groups
 
 
+def rows_of(document):
+    """The rows of a document's tables, as lists of cells."""
+    return [[cell.strip() for cell in line.split("|")[1:-1]] for line in document.read_text().splitlines() if line.startswith("|")]
+
+
 def add_groups(count):
     """README.md and docs/ARCHITECTURE.md have the same groups in the same order; the rows of the crates follow it."""
     groups = listed_groups()
     for document in (TOP / "README.md", TOP / "docs" / "ARCHITECTURE.md"):
-        rows = [[cell.strip() for cell in line.split("|")[1:-1]] for line in document.read_text().splitlines() if line.startswith("|")]
+        rows = rows_of(document)
         found = {row[0]: row[-1].split(", ") for row in rows if row[0] in groups}
         count.add(list(found.items()) == list(groups.items()), f"{document.relative_to(TOP)}: the groups aren't those of crates.txt")
     names = [name for crates in groups.values() for name in crates]
     count.add([row[0] for row in rows if row[0] in names] == names, "docs/ARCHITECTURE.md: the crates aren't in the order of crates.txt")
 
 
+def add_edits(count):
+    """docs/GATE.md has a row for each crate, which ends in how many edits stand in the gate and how many beside it."""
+    crates = sorted(listed_crates())
+    rows = [row for row in rows_of(TOP / "docs" / "GATE.md") if row[0] in crates]
+    count.add([row[0] for row in rows] == crates, "docs/GATE.md: the rows aren't the crates of crates.txt from a to z")
+    for crate, *_, in_gate, beside in rows:
+        folders = (CRATES / crate / "must-fail", TESTS / "wrong_bodies" / crate)
+        found = [str(len([*folder.glob("*.edit")])) for folder in folders]
+        count.add([in_gate, beside] == found, f"docs/GATE.md: {crate} has {' and '.join(found)} edits, not {in_gate} and {beside}")
+
+
+def add_first_words(count):
+    """docs/GLOSSARY.md has a row for each word that the names of several crates begin with, and for no word that is none."""
+    text = (TOP / "docs" / "GLOSSARY.md").read_text().partition("Words that names of crates begin with:")[2]
+    rows = re.findall(r"^\|([a-z]+)_?\|", text, re.MULTILINE)[1:]
+    words = collections.Counter(crate.partition("_")[0] for crate in listed_crates())
+    for word in sorted({*rows, *(word for word, times in words.items() if times > 1)}):
+        count.add(word in rows and word in words, f"docs/GLOSSARY.md: crates that begin with {word}: {words[word]}, rows: {rows.count(word)}")
+
+
 def run(test):
     count = Count(0, [])
     add_groups(count)
+    add_edits(count)
+    add_first_words(count)
     add_files(count)
     add_tests(count)
     add_words(count)
