@@ -75,8 +75,7 @@ def fault_of(edit, crate):
         if text.count(old) != 1:
             return f"{label}: mend its `old:` and `new:`. {where} has this {text.count(old)} times, not once: {old.strip()}"
         is_first, found = len(texts) == 1 and text == source.read_text(), place_of(text, old)
-        # those of the gate don't name theirs yet
-        if is_first and found != place and "must-fail" not in edit.parts:
+        if is_first and found != place:
             return f"{label}: mend its first line. In {source.relative_to(TOP)} it is planted in another place: # {found}"
         texts[path] = text.replace(old, new)
     return None if texts else f"{label}: it has no lines `file:`, `old:` and `new:`"
