@@ -81,9 +81,12 @@ class Together:
 
     def run(self, room):
         crate = Workspace(room / "work").add_together({test.name: test.sources() for test in self.tests})
-        seconds = sum(test.seconds for test in self.tests)
+        # each takes up to two minutes where it is alone
+        seconds = max(test.seconds for test in self.tests) + 120 * len(self.tests)
         done = self.clock.call(["rt", "try", "--test", "--seconds", seconds], cwd=crate)
         told, count = told_apart(done.out + done.err), Count(0, [])
+        if not told:
+            print(f"{self.label}: built together they give no result:\n{(done.out + done.err)[-2000:]}", flush=True)
         for test in self.tests:
             rows = told.get(test.name, [])
             is_right = bool(rows) and set(rows) == {"ok"}

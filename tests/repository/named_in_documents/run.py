@@ -55,7 +55,7 @@ def add_files(count):
             places = [TOP / path, CRATES / path, document.parent / path, CRATES / crate / path]
             is_there = any(it.exists() for it in places) or "/" not in path.rstrip("/") and path.rstrip("/") in names
             count.add(is_there, f"{document.relative_to(TOP)}: no file {path} of {crate}")
-        for path in re.findall(r"`((?:tests|crates|examples|tools)/[\w/]+)`", document.read_text().replace("/NAME`", "`")):
+        for path in re.findall(r"`((?:tests|crates|examples|tools)/[\w/]+)`", document.read_text()):
             count.add((TOP / path).exists(), f"{document.relative_to(TOP)}: no {path}")
 
 

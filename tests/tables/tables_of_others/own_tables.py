@@ -2,9 +2,9 @@
 
     python3 own_tables.py EXAMPLES FOLDER
 
-writes a file of questions for each table to the folder, and beside it NAME.stdout. What is wanted of
-the tables that lie is read off the table in EXAMPLES/README.md; what is wanted of values is that of
-the plain reader and writer.
+writes a file of questions for each table to the folder, and prints the answers that are wanted, file by file as they are
+sorted: lines `NAME ANSWER`. What is wanted of the tables that lie is read off the table in EXAMPLES/README.md; what is
+wanted of values is that of the plain reader and writer.
 """
 import random
 import re
@@ -23,8 +23,6 @@ ROW = re.compile(r"^\| `([a-z-]+)` \| .* \| `(idlc: .*)` \|$", re.MULTILINE)
 def put(name, asked):
     with open(f"{FOLDER}/{name}", "w") as file:
         file.writelines(f"{question}\n" for question, _ in asked)
-    with open(f"{FOLDER}/{name}.stdout", "w") as file:
-        file.writelines(f"{answer}\n" for _, answer in asked if answer is not None)
 
 
 def values():
@@ -45,9 +43,12 @@ def main():
         lines = dict(ROW.findall(file.read()))
     if set(lines) != set(DECEPTIONS):
         sys.exit("README.md has other deceptions than own_table.py")
-    put("own", [(f"table {table().octets().hex()}", None), ("check", "0 accepted 6"), *values()])
+    files = {"own": [(f"table {table().octets().hex()}", None), ("check", "0 accepted 6"), *values()]}
     for word, line in lines.items():
-        put(word, [(f"table {table(word).octets().hex()}", None), ("check", f"1 {line}")])
+        files[word] = [(f"table {table(word).octets().hex()}", None), ("check", f"1 {line}")]
+    for name, asked in sorted(files.items()):
+        put(name, asked)
+        print("".join(f"{name} {answer}\n" for _, answer in asked if answer is not None), end="")
 
 
 main()
