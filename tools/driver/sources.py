@@ -10,7 +10,7 @@ from driver.workspace import TOP, listed_crates
 GENERICS = r"(?:<(?:[^<>]|<[^<>]*>)*>)?"
 
 
-@dataclasses.dataclass
+@dataclasses.dataclass(frozen=True)
 class Function:
     """A function: its name, behind `TYPE::` for a method; its file; the line, from 0, that opens its body; the type
     that it answers, as it is written; whether other crates can call it."""

@@ -104,6 +104,26 @@ class Workspace:
         self._list({name: below})
         return folder
 
+    def add_together(self, tests):
+        """Makes a crate of the sources of several tests, each of which is a module `of_NAME` in it. Returns its folder."""
+        root, text = "#![tactic(auto)]\n", ""
+        source_folder = self.folder / "crates" / "tests_together" / "src"
+        for name, sources in tests.items():
+            module = f"of_{name}"
+            root += f"\n#[cfg(test)]\nmod {module};\n"
+            (source_folder / module).mkdir(parents=True)
+            for source in sources:
+                text += source.read_text()
+                own = source.read_text().replace("#![tactic(auto)]\n", "")
+                part = source.name.removesuffix(".in")
+                path = source_folder / (f"{module}.rt" if part == "lib.rt" else f"{module}/{part}")
+                path.write_text(re.sub(r"\bcrate::", f"crate::{module}::", own))
+        (source_folder / "lib.rt").write_text(root)
+        below = self.crates_named(text)
+        self.copy_crates(below)
+        self._list({"tests_together": below})
+        return source_folder.parent
+
     def crates_named(self, text):
         """The libraries that a source or a clause in it names, of the repository and of those that its crates use."""
         known = {*self.listed, "anyhow", "os", *(below for names in self.listed.values() for below in names)}
