@@ -31,7 +31,8 @@ pub record IsUnsaid (request : Request) (body : Option Given) (before : StreamEn
 
 -- By what the reader and the writer tell before and after. A fault tells which it was: sending ends with faults of its
 -- own, and awaiting with others.
-abbrev pub IsCalled : Request → Option Given → ℕ → StreamEnds → Result (Option ReplyBody) CallFault → StreamEnds → Type 0
+abbrev pub IsCalled : Request → Option Given → ℕ → StreamEnds → Result (Option ReplyBody) CallFault → StreamEnds
+    → Type 0
 IsCalled request body reads before (Ok (Some answer)) after = IsAwaited request body reads before (Ok answer) after
 IsCalled request body reads before (Ok None) after = IsSentAlone request body before after
 IsCalled request body reads before (Err fault) after =

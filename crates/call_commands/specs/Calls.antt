@@ -86,7 +86,8 @@ pub record IsCalledBy (Told Told' : Telling) (types : CallTypes) (ask : TextCall
   pub is : IsCarriedOut Told Told' choice ask reference lines result lines'
 
 -- the word names none, and nothing was dialled
-pub record IsNameless (types : CallTypes) (ask : TextCall) (reference : Reference) (lines lines' : List Line) : Type 0 where
+pub record IsNameless (types : CallTypes) (ask : TextCall) (reference : Reference)
+    (lines lines' : List Line) : Type 0 where
   pub none : chosen types.table.now.model types.names.now reference.type_id ask.operation.now ≡ None
   pub lines_are : lines' ≡ lines
 
