@@ -3,12 +3,11 @@
 A file with a folder stands in the crate that was named before it on its line, in the repository, or beside the document;
 one without may be anywhere. The walks of docs/ARCHITECTURE.md are lines `CRATE::MODULE::FUNCTION, ..  what it does`.
 """
-import itertools
 import os
 import re
 
 from driver.suite import Count
-from driver.workspace import TOP, listed_crates
+from driver.workspace import TOP, listed_crates, spelled_out
 
 CRATES = TOP / "crates"
 # a file between backticks, or a crate's name
@@ -26,12 +25,6 @@ def names_of_files():
         folders[:] = [name for name in folders if name not in (".git", "out")]
         found.update(folders, files)
     return found
-
-
-def spelled_out(path):
-    """The paths that one with `{a,b}` stands for."""
-    parts = [part.split(",") for part in re.split(r"[{}]", path)]
-    return ["".join(part) for part in itertools.product(*parts)]
 
 
 def files_named(document, crates):

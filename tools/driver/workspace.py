@@ -1,4 +1,5 @@
 """Copies of crates in a folder of their own, outside the repository: the gate takes any source in that for a part."""
+import itertools
 import pathlib
 import re
 import shutil
@@ -29,6 +30,12 @@ def crates_below(listed, names):
     for name in names:
         add(name)
     return found
+
+
+def spelled_out(path):
+    """The paths that one with `{a,b}` stands for."""
+    parts = [part.split(",") for part in re.split(r"[{}]", path)]
+    return ["".join(part) for part in itertools.product(*parts)]
 
 
 class Workspace:

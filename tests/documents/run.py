@@ -1,0 +1,50 @@
+"""Counts the words and lines of the documents, and looks up the numbers that they tell."""
+import re
+
+from driver.suite import Count
+from driver.workspace import TOP, spelled_out
+
+CRATES = TOP / "crates"
+DOCS = TOP / "docs"
+ARCHITECTURE = DOCS / "ARCHITECTURE.md"
+OUTSIDE = [*TOP.glob("*.md"), *DOCS.glob("*.md"), TOP / "examples" / "README.md"]
+README_LINES = 110
+# the most words that documents have together
+WORDS = (
+    ([TOP / "README.md"], 1200),
+    ([ARCHITECTURE], 2200),
+    (OUTSIDE, 14000),
+    ([*CRATES.glob("*/README.md")], 22000),
+)
+
+
+def add_lengths(count):
+    lines = len((TOP / "README.md").read_text().splitlines())
+    count.add(lines <= README_LINES, f"README.md: {lines} lines, over {README_LINES}")
+    for documents, most in WORDS:
+        words = {str(path.relative_to(TOP)): len(path.read_text().split()) for path in documents}
+        longest = ", ".join(f"{name} {n}" for name, n in sorted(words.items(), key=lambda row: -row[1])[:4])
+        count.add(sum(words.values()) <= most, f"{sum(words.values())} words, over {most}: {longest}")
+
+
+def add_line_counts(count):
+    """A row of the definitions to read ends with how many lines the files that it names have together."""
+    rows = re.findall(r"^\|(\[.*)\|(\d+)\|$", ARCHITECTURE.read_text(), re.MULTILINE)
+    for row, told in rows:
+        paths = [path for named in re.findall(r"`([^`]+\.antt)`", row) for path in spelled_out(named)]
+        lines = sum(len((CRATES / path).read_text().splitlines()) for path in paths)
+        count.add(lines == int(told), f"docs/ARCHITECTURE.md: {lines} lines, not {told}: {row}")
+    count.add(len(rows) >= 8, f"docs/ARCHITECTURE.md: {len(rows)} rows of definitions to read")
+
+
+def add_decisions(count):
+    numbers = [int(number) for number in re.findall(r"^\*\*(\d+)\.", (DOCS / "DECISIONS.md").read_text(), re.MULTILINE)]
+    count.add(numbers == sorted(set(numbers)), f"docs/DECISIONS.md: not in order, or twice: {numbers}")
+
+
+def run(test):
+    count = Count(0, [])
+    add_lengths(count)
+    add_line_counts(count)
+    add_decisions(count)
+    return count
