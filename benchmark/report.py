@@ -1,10 +1,9 @@
-"""The report docs/BENCHMARKS.md: where a table stands in it, and what is told above it."""
+"""Where the tables of the benchmarks stand, and what is told above each."""
 import datetime
 import os
 import pathlib
 import re
 import subprocess
-import sys
 
 HERE = pathlib.Path(__file__).resolve().parent
 REPORT = HERE.parent / "docs" / "BENCHMARKS.md"
@@ -29,9 +28,10 @@ def conditions():
 
 
 def write_table(name, told, table):
-    """Puts a table in the place of the one of that name in the report."""
+    """Puts a table in the place of the one of that name in the report, or into a file where it has no place there."""
     text = REPORT.read_text()
     old = re.compile(rf"<!-- {name} -->\n(?:\d.*\n)?(?:\n(?:\|.*\n)+)*")
-    if not old.search(text):
-        sys.exit(f"{REPORT} has no place for {name}")
-    REPORT.write_text(old.sub(lambda _: f"<!-- {name} -->\n{told}\n\n{table.strip()}\n", text))
+    if old.search(text):
+        REPORT.write_text(old.sub(lambda _: f"<!-- {name} -->\n{told}\n\n{table.strip()}\n", text))
+    else:
+        (HERE / name / "figures.txt").write_text(f"{told}\n\n{table.strip()}\n")
