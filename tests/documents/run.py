@@ -1,8 +1,9 @@
 """Counts the words and lines of the documents, and looks up the numbers that they tell."""
 import re
 
+from driver.minutes import minutes_of_proofs
 from driver.suite import Count
-from driver.workspace import TOP, spelled_out
+from driver.workspace import TOP, listed_crates, spelled_out
 
 CRATES = TOP / "crates"
 DOCS = TOP / "docs"
@@ -42,9 +43,14 @@ def add_decisions(count):
     count.add(numbers == sorted(set(numbers)), f"docs/DECISIONS.md: not in order, or twice: {numbers}")
 
 
+def add_minutes(count):
+    count.add(sorted(minutes_of_proofs()) == sorted(listed_crates()), "tools/minutes.txt: the crates aren't those of crates.txt")
+
+
 def run(test):
     count = Count(0, [])
     add_lengths(count)
     add_line_counts(count)
     add_decisions(count)
+    add_minutes(count)
     return count

@@ -12,7 +12,7 @@ from driver.suite import Count
 from driver.workspace import TOP, crates_below, listed_crates
 
 # what the commands run beside `rt`
-TOOLS = ("bash", "env", "find", "python3", "readlink")
+TOOLS = ("bash", "env", "find", "git", "python3", "readlink")
 COMMANDS = (
     ("idlc", "--version"), ("idlc", "check", "builtin"), ("idlc", "--unproved", "check", "builtin"),
     ("package",), ("c/build",), ("verify",),
@@ -41,6 +41,17 @@ assert sys.argv[1] == "try"
 print(os.path.basename(os.getcwd()), *sys.argv[2:])
 print("checked: ended status=1\\nrun=ended status=1 runners=1 proved=no", file=sys.stderr)
 sys.exit(1)
+"""
+# a gate whose proof of a crate takes five seconds of a processor
+BUSY = """import time
+while time.process_time() < 5:
+    pass
+"""
+MEASURED = f"""#!{sys.executable}
+import pathlib, subprocess, sys
+subprocess.run([sys.executable, pathlib.Path(sys.argv[0]).with_name("rattle"), "build", "--crate-name", "type_graph", "src/lib.rt"])
+print("rt: type_graph proved")
+print("rt: type_model is kept: an earlier run proved it")
 """
 UNPROVED = "idlc: compiling without a proof; nothing is proved of this answer, and nothing is kept\n"
 
@@ -140,6 +151,18 @@ def unproved(copy, count):
         count.add(is_right and done.err.startswith("idlc: --unproved can't run "), f"{words} unproved: {done}")
 
 
+def measured(copy, count):
+    """The minutes of a crate that was proved are written, and no others."""
+    (copy.tools / "rattle").write_text(BUSY)
+    copy.put_gate(MEASURED)
+    before = (copy.top / "tools/minutes.txt").read_text().splitlines()
+    done = copy.run("tools/minutes", "type_graph")
+    after = (copy.top / "tools/minutes.txt").read_text().splitlines()
+    changed = [line for line in after if line not in before]
+    is_right = len(before) == len(after) and len(changed) == 1 and re.match(r"type_graph 0\.1 [\d-]{10} \w+$", changed[0])
+    count.add(done.status == 0 and is_right, f"minutes: {changed} {done}")
+
+
 def run(test):
     count = Count(0, [])
     copy = Copy(test)
@@ -147,4 +170,5 @@ def run(test):
     first_run(copy, count)
     failing_proofs(copy, count)
     unproved(copy, count)
+    measured(copy, count)
     return count

@@ -9,6 +9,7 @@ import subprocess
 import tempfile
 import time
 
+from driver.minutes import minutes_of_proofs
 from driver.workspace import PARTS, TOP, Workspace, crates_below, listed_crates
 
 CRATE = "idlc_main"
@@ -67,7 +68,7 @@ class Progress:
         self.folder = folder
         self.crates = crates
         self.listed = listed_crates()
-        self.minutes = minutes_of_docs()
+        self.minutes = minutes_of_proofs()
         self.done = set()
         self.begun = {}
         self.start = time.monotonic()
@@ -114,12 +115,6 @@ class Progress:
         minutes = (time.monotonic() - self.start) / 60
         done = f"{len(self.done)} of {len(self.crates)} crates proved"
         return f"idlc: {done}, {minutes:.0f} minutes so far, about {self.estimate():.0f} left: {names}"
-
-
-def minutes_of_docs():
-    """The minutes of processor time that a crate's proof takes, by the table of docs/GATE.md."""
-    rows = re.findall(r"^\| `?(\w+)`? \| ([\d.]+)", (TOP / "docs" / "GATE.md").read_text(), re.MULTILINE)
-    return {name: float(minutes) for name, minutes in rows}
 
 
 @contextlib.contextmanager

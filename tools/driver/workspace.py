@@ -10,11 +10,15 @@ TOP = pathlib.Path(__file__).resolve().parents[2]
 PARTS = ("src", "specs", "proofs")
 
 
-def listed_crates():
-    """The libraries that each crate of crates.txt names."""
-    lines = [line.partition("#")[0] for line in (TOP / "crates.txt").read_text().splitlines()]
+def crates_of_list(text):
+    """The libraries that each crate of a list like crates.txt names."""
+    lines = [line.partition("#")[0] for line in text.splitlines()]
     rows = [line.partition(":") for line in lines if ":" in line]
     return {name.split()[0]: below.split() for name, _, below in rows}
+
+
+def listed_crates():
+    return crates_of_list((TOP / "crates.txt").read_text())
 
 
 def crates_below(listed, names):
