@@ -43,6 +43,19 @@ def add_decisions(count):
     count.add(numbers == sorted(set(numbers)), f"docs/DECISIONS.md: not in order, or twice: {numbers}")
 
 
+def add_version(count):
+    """`package` and `c/build` read VERSION; what can't read it has to say the same."""
+    version = (TOP / "VERSION").read_text().strip()
+    rows = (
+        (CRATES / "command_words" / "src" / "commands.rt", r'^const VERSION: &str = "(.*)";'),
+        (TOP / "tests" / "idlc_main" / "tests.rt.in", r'"idlc ([\d.]+)\\n"'),
+        (TOP / "CHANGELOG.md", r"^### (\S+) \(\d{4}-\d\d-\d\d\)"),
+    )
+    for path, form in rows:
+        found = re.search(form, path.read_text(), re.MULTILINE)
+        count.add(found and found[1] == version, f"{path.relative_to(TOP)}: not version {version}: {found and found[1]}")
+
+
 def add_minutes(count):
     count.add(sorted(minutes_of_proofs()) == sorted(listed_crates()), "tools/minutes.txt: the crates aren't those of crates.txt")
 
@@ -52,5 +65,6 @@ def run(test):
     add_lengths(count)
     add_line_counts(count)
     add_decisions(count)
+    add_version(count)
     add_minutes(count)
     return count
