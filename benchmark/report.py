@@ -27,11 +27,16 @@ def conditions():
     return f"{datetime.date.today()}, {commit}{changed}, {kit}, {machine}, {beside}."
 
 
+def without_blanks(table):
+    """A table as the report has it: without blanks around its bars."""
+    return re.sub(r" *\| *", "|", table.strip())
+
+
 def write_table(name, told, table):
     """Puts a table in the place of the one of that name in the report, or into a file where it has no place there."""
     text = REPORT.read_text()
     old = re.compile(rf"<!-- {name} -->\n(?:\d.*\n)?(?:\n(?:\|.*\n)+)*")
     if old.search(text):
-        REPORT.write_text(old.sub(lambda _: f"<!-- {name} -->\n{told}\n\n{table.strip()}\n", text))
+        REPORT.write_text(old.sub(lambda _: f"<!-- {name} -->\n{told}\n\n{without_blanks(table)}\n", text))
     else:
         (HERE / name / "figures.txt").write_text(f"{told}\n\n{table.strip()}\n")
