@@ -1,4 +1,4 @@
-"""Where the tables of the benchmarks stand, and what is told above each."""
+"""Where the tables of the benchmarks stand, and the line above each."""
 import datetime
 import os
 import pathlib
@@ -14,7 +14,7 @@ def output_of(*words):
 
 
 def conditions():
-    """The line that tells when, of what and on what a table was measured."""
+    """The line that says when, of what and on what a table was measured."""
     commit = output_of("git", "rev-parse", "--short", "HEAD")
     changed = " with changes" if output_of("git", "status", "--porcelain", "crates", "benchmark") else ""
     model = re.search(r"^model name\s*:\s*(.*)", pathlib.Path("/proc/cpuinfo").read_text(), re.MULTILINE)

@@ -62,7 +62,7 @@ def processors():
 
 
 class Progress:
-    """What is told of the proofs: how long they take, which were done, and on a terminal how far they are."""
+    """What is reported of the proofs: how long they take, which were done, and on a terminal how far they are."""
 
     def __init__(self, folder, crates):
         self.folder = folder
@@ -74,7 +74,7 @@ class Progress:
         self.start = time.monotonic()
 
     def hear(self, line):
-        """Takes a line that the gate said, maybe again. Returns the crate that it is the first to tell of."""
+        """Takes a line that the gate said, maybe again. Returns the crate that it is the first to name."""
         said = re.match(r"rt: (\w+) (proved|is kept)", line)
         if not said or said[1] in self.done:
             return None
@@ -82,7 +82,7 @@ class Progress:
         return said[1]
 
     def under_way(self):
-        """The crates that are being proved: they have a folder for what is made, and weren't told of."""
+        """The crates that are being proved: they have a folder for what is made, and weren't named."""
         for crate in self.crates:
             if crate not in self.done and (self.folder / "crates" / crate / "out").is_dir():
                 self.begun.setdefault(crate, time.monotonic())
@@ -180,7 +180,7 @@ def stop(*_signal):
 
 
 def tell_progress(log, progress, out):
-    """Tells on a terminal how far the gate is, elsewhere each crate that it proved since it was last asked."""
+    """Reports on a terminal how far the gate is, elsewhere each crate that it proved since it was last asked."""
     for line in log.read_text(errors="replace").splitlines():
         crate = progress.hear(line)
         if crate and not out.isatty():
@@ -199,7 +199,7 @@ def run_gate(folder, progress, out):
         has_ended = False
         while not has_ended:
             time.sleep(1)
-            # asked first, so that what it said last is told
+            # asked first, so that what it said last is reported
             has_ended = gate.poll() is not None
             tell_progress(log, progress, out)
     finally:
