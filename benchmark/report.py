@@ -1,10 +1,9 @@
-"""The report docs/BENCHMARKS.md: where a table stands in it, and what is told above it."""
+"""Where the tables of the benchmarks stand, and the line above each."""
 import datetime
 import os
 import pathlib
 import re
 import subprocess
-import sys
 
 HERE = pathlib.Path(__file__).resolve().parent
 REPORT = HERE.parent / "docs" / "BENCHMARKS.md"
@@ -15,7 +14,7 @@ def output_of(*words):
 
 
 def conditions():
-    """The line that tells when, of what and on what a table was measured."""
+    """The line that says when, of what and on what a table was measured."""
     commit = output_of("git", "rev-parse", "--short", "HEAD")
     changed = " with changes" if output_of("git", "status", "--porcelain", "crates", "benchmark") else ""
     model = re.search(r"^model name\s*:\s*(.*)", pathlib.Path("/proc/cpuinfo").read_text(), re.MULTILINE)
@@ -28,10 +27,16 @@ def conditions():
     return f"{datetime.date.today()}, {commit}{changed}, {kit}, {machine}, {beside}."
 
 
+def without_blanks(table):
+    """A table as the report has it: without blanks around its bars."""
+    return re.sub(r" *\| *", "|", table.strip())
+
+
 def write_table(name, told, table):
-    """Puts a table in the place of the one of that name in the report."""
+    """Puts a table in the place of the one of that name in the report, or into a file where it has no place there."""
     text = REPORT.read_text()
     old = re.compile(rf"<!-- {name} -->\n(?:\d.*\n)?(?:\n(?:\|.*\n)+)*")
-    if not old.search(text):
-        sys.exit(f"{REPORT} has no place for {name}")
-    REPORT.write_text(old.sub(lambda _: f"<!-- {name} -->\n{told}\n\n{table.strip()}\n", text))
+    if old.search(text):
+        REPORT.write_text(old.sub(lambda _: f"<!-- {name} -->\n{told}\n\n{without_blanks(table)}\n", text))
+    else:
+        (HERE / name / "figures.txt").write_text(f"{told}\n\n{table.strip()}\n")

@@ -20,7 +20,7 @@
  *     free(octets);
  *     idlc_free(&table);
  *
- * What each call answers is proved, whatever octets it is given. This is what the caller owes:
+ * What each call returns is proved, whatever octets it is given. The caller has these duties:
  *
  * - A table begins with zeros. It isn't copied while it is loaded, nor are its members changed; idlc_share gives another.
  * - No pointer is null, also where a length is 0, and each points to as much as its length says.
@@ -44,15 +44,15 @@
 extern "C" {
 #endif
 
-/* What calls answer. `idlc explain NN` tells what a number means, and how to mend it; 42 to 47 are of this library alone. */
+/* What calls return. `idlc explain NN` says what a number means, and how to mend it; 42 to 47 are of this library alone. */
 enum {
     IDLC_DONE = 0,
-    IDLC_NO_MEMORY = 42,  /* malloc or realloc gave none */
+    IDLC_NO_MEMORY = 42,  /* malloc or realloc failed */
     IDLC_NO_TABLE = 43,   /* no table is loaded */
     IDLC_NO_NAME = 44,    /* no type has this name, or node; no name stands at this place */
-    IDLC_NO_ROOM = 45,    /* the buffer is too small; the length that is needed is told */
+    IDLC_NO_ROOM = 45,    /* the buffer is too small; the length that is needed is returned */
     IDLC_TOO_LONG = 46,   /* a table file has 16,777,216 octets at most */
-    IDLC_FAULTY_IDL = 47, /* the IDL has a fault; its place is told, with a number of 1 to 36, see below */
+    IDLC_FAULTY_IDL = 47, /* the IDL has a fault; its place is returned, with a number of 1 to 36, see below */
 
     /* the octets are no table's */
     IDLC_NOT_A_TABLE = 50,
@@ -107,7 +107,7 @@ enum {
     IDLC_NAMED_ENTRY_NOT_FULL = 85
 };
 
-/* The faults of IDL that a place tells; `idlc explain NN` tells of them too. */
+/* The numbers of a place in IDL; `idlc explain NN` explains them too. */
 enum {
     IDLC_BAD_CHAR = 1, /* or the text isn't UTF-8: line 0 */
     IDLC_OPEN_COMMENT = 2,
@@ -167,8 +167,8 @@ struct idlc_refusal {
     uint32_t node;
 };
 
-/* Where a text was refused, and the number. Lines and columns count from 1, columns in octets; 0 is told where the octets
- * aren't UTF-8, or where no column of IDL is known. */
+/* Where a text was refused, and the number. Lines and columns count from 1, columns in octets; they are 0 where the
+ * octets aren't UTF-8, or where no column of IDL is known. */
 struct idlc_place {
     uint32_t number;
     size_t line;
@@ -181,56 +181,56 @@ struct idlc_message {
     uint32_t id;          /* the number of the request */
     uint32_t detail;      /* the response flags of a request, the status of a reply; of a piece 1 */
     bool little;          /* the order of the body's numbers */
-    bool has_key;         /* the target tells the object's key */
+    bool has_key;         /* the target has the object's key */
     size_t taken;         /* how many octets it has: the next message stands behind them */
     size_t body_at;       /* where its body stands, from its first octet on: the position for idlc_decode; past its end: none */
     size_t key_len;       /* of the key, at the front of the buffer */
     size_t operation_len; /* of the operation, behind the key */
 };
 
-/* Loads the table of a file's octets, if it is right, and lets go of the one that was there. Answers 0, 42, 46, 50 to 55,
- * or 80 to 85. Where it isn't 0 the table is as it was, and `refusal` is told. */
+/* Loads the table of a file's octets, if it is right, and frees the one that was there. Returns 0, 42, 46, 50 to 55,
+ * or 80 to 85. If it isn't 0 the table is as it was, and `refusal` is set. */
 uint32_t idlc_load(struct idlc_table *table, const uint8_t *octets, size_t octets_len, struct idlc_refusal *refusal);
 
 /* Loads the table of an IDL text, as a preprocessor leaves it, with the names of members, enumerators and parameters, and
- * lets go of the one that was there. Answers 0, 42 or 47. Where it isn't 0 the table is as it was; with 47 `place` is told. */
+ * frees the one that was there. Returns 0, 42 or 47. If it isn't 0 the table is as it was; with 47 `place` is set. */
 uint32_t idlc_compile(struct idlc_table *table, const uint8_t *source, size_t source_len, struct idlc_place *place);
 
-/* Has another table hold the same as this one, without a copy, and lets go of what was there. Each is let go of by itself.
- * Answers 0, 42 or 43. Where it isn't 0 the other is as it was. */
+/* Has another table hold the same as this one, without a copy, and frees what was there. Each is freed by itself.
+ * Returns 0, 42 or 43. If it isn't 0 the other is as it was. */
 uint32_t idlc_share(struct idlc_table *table, struct idlc_table *other);
 
-/* Lets go of the table, and may be called again. */
+/* Frees the table, and may be called again. */
 void idlc_free(struct idlc_table *table);
 
-/* The node of a type's name, as "M::S". Answers 0, 43 or 44. */
+/* The node of a type's name, as "M::S". Returns 0, 43 or 44. */
 uint32_t idlc_find(struct idlc_table *table, const uint8_t *name, size_t name_len, uint32_t *node);
 
-/* The name at a place, from 0 on, and its node. Answers 0, 43, 44 behind the last, or 45. */
+/* The name at a place, from 0 on, and its node. Returns 0, 43, 44 behind the last, or 45. */
 uint32_t idlc_name(struct idlc_table *table, size_t place, uint8_t *out, size_t out_len, size_t *len, uint32_t *node);
 
-/* The octets of the value that the whole tape is, the first of them at a position, with zeros in the gaps. Answers 0,
+/* The octets of the value that the whole tape is, the first of them at a position, with zeros in the gaps. Returns 0,
  * 42 to 45, or 60 to 68: the tape is no value's. */
 uint32_t idlc_encode(struct idlc_table *table, uint32_t node, bool little, uint64_t pos, const uint8_t *tape,
                      size_t tape_len, uint8_t *out, size_t out_len, size_t *len);
 
 /* The tape of the value that a front of the octets encodes, whatever stands in the gaps, and how many octets that front
- * has. Answers 0, 42 to 45, or 60 to 68: no front encodes a value. */
+ * has. Returns 0, 42 to 45, or 60 to 68: no front encodes a value. */
 uint32_t idlc_decode(struct idlc_table *table, uint32_t node, bool little, uint64_t pos, const uint8_t *octets,
                      size_t octets_len, size_t *taken, uint8_t *out, size_t out_len, size_t *len);
 
-/* The same of the value that a text says: JSON of the form that crates/value_text/README.md tells, members and enumerators
- * by their names where the table was compiled, else by their places. Answers 0, 42 to 45, 60 to 68: the value has no octets,
- * or 110 to 124: the text says no value of the type, and `place` is told. */
+/* The same of the value that a text says: JSON of the form in crates/value_text/README.md, members and enumerators
+ * by their names where the table was compiled, else by their places. Returns 0, 42 to 45, 60 to 68: the value has no octets,
+ * or 110 to 124: the text says no value of the type, and `place` is set. */
 uint32_t idlc_encode_text(struct idlc_table *table, uint32_t node, bool little, uint64_t pos, const uint8_t *text,
                           size_t text_len, uint8_t *out, size_t out_len, size_t *len, struct idlc_place *place);
 
-/* As idlc_decode, but what is handed over is the value's text, without a zero or a line feed at its end. */
+/* As idlc_decode, but the buffer gets the value's text, without a zero or a line feed at its end. */
 uint32_t idlc_decode_text(struct idlc_table *table, uint32_t node, bool little, uint64_t pos, const uint8_t *octets,
                           size_t octets_len, size_t *taken, uint8_t *out, size_t out_len, size_t *len);
 
 /* Writes a GIOP 1.2 request: its number, its response flags (3: an answer is wanted, 0: none), the object's key, the
- * operation, no service contexts, and the value that the tape is of the node, as "M::I::op/in". Answers 0, 42 to 45, or
+ * operation, no service contexts, and the value that the tape is of the node, as "M::I::op/in". Returns 0, 42 to 45, or
  * 92, 93, 96: no request has these. */
 uint32_t idlc_write_request(struct idlc_table *table, uint32_t node, bool little, uint32_t id, uint8_t flags,
                             const uint8_t *key, size_t key_len, const uint8_t *operation, size_t operation_len,
@@ -241,15 +241,15 @@ uint32_t idlc_write_request(struct idlc_table *table, uint32_t node, bool little
 uint32_t idlc_write_reply(struct idlc_table *table, uint32_t node, bool little, uint32_t id, uint32_t status,
                           const uint8_t *tape, size_t tape_len, uint8_t *out, size_t out_len, size_t *len);
 
-/* Tells what stands at the front of a stream, and hands over the key of the object that a request or a locate request asks
- * for, and behind it the operation. Any table serves. Answers 0, 42, 43, 45, or 90 to 93 and 97: the stream is none of GIOP 1.2.
- * Requests in fragments aren't joined: the first piece is told, and each one behind it answers 97, IDLC_BAD_FRAGMENT.
- * Where it isn't 0 `message` is as it was. */
+/* Reads what stands at the front of a stream. The buffer gets the key of the object that a request or a locate request asks
+ * for, and behind it the operation. Any table serves. Returns 0, 42, 43, 45, or 90 to 93 and 97: the stream is none of GIOP 1.2.
+ * Requests in fragments aren't joined: the first piece is reported, and each one behind it returns 97, IDLC_BAD_FRAGMENT.
+ * If it isn't 0 `message` is as it was. */
 uint32_t idlc_read_message(struct idlc_table *table, const uint8_t *octets, size_t octets_len,
                            struct idlc_message *message, uint8_t *out, size_t out_len, size_t *len);
 
-/* Of all calls that hand octets over: with 0 its first `*len` octets are written, and those behind them are as
- * they were; with 45 `*len` is what is needed, so a call with length 0 asks for it; but with 0 the buffer is as it was.
+/* Of all calls with a buffer: with 0 its first `*len` octets are written, and those behind them are as they were; with
+ * 45 `*len` is the length that is needed, so a call with length 0 asks for it; unless it returns 0 the buffer is as it was.
  * idlc_encode and idlc_decode keep up to 1,048,576 octets of memory with the table for their next call. */
 
 #ifdef __cplusplus

@@ -15,7 +15,7 @@ FAULTY_IDL = 47
 
 
 class Refused(Exception):
-    """A call was refused; `number` is that of idlc.h, of faulty IDL the fault's; of a text `line` and `column` are told."""
+    """A call was refused; `number` is that of idlc.h, of faulty IDL the fault's; of a text `line` and `column` are set."""
 
     def __init__(self, number, line=0, column=0):
         super().__init__(f"refused: {number}" + (f", line {line}" if line else ""))

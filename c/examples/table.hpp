@@ -1,4 +1,4 @@
-// A table that lets go of itself. Each call answers a number of idlc.h.
+// A table that frees itself. Each call returns a number of idlc.h.
 #pragma once
 #include <idlc.h>
 

@@ -9,6 +9,7 @@ import subprocess
 import tempfile
 import time
 
+from driver.minutes import minutes_of_proofs
 from driver.workspace import PARTS, TOP, Workspace, crates_below, listed_crates
 
 CRATE = "idlc_main"
@@ -61,19 +62,19 @@ def processors():
 
 
 class Progress:
-    """What is told of the proofs: how long they take, which were done, and on a terminal how far they are."""
+    """What is reported of the proofs: how long they take, which were done, and on a terminal how far they are."""
 
     def __init__(self, folder, crates):
         self.folder = folder
         self.crates = crates
         self.listed = listed_crates()
-        self.minutes = minutes_of_docs()
+        self.minutes = minutes_of_proofs()
         self.done = set()
         self.begun = {}
         self.start = time.monotonic()
 
     def hear(self, line):
-        """Takes a line that the gate said, maybe again. Returns the crate that it is the first to tell of."""
+        """Takes a line that the gate said, maybe again. Returns the crate that it is the first to name."""
         said = re.match(r"rt: (\w+) (proved|is kept)", line)
         if not said or said[1] in self.done:
             return None
@@ -81,7 +82,7 @@ class Progress:
         return said[1]
 
     def under_way(self):
-        """The crates that are being proved: they have a folder for what is made, and weren't told of."""
+        """The crates that are being proved: they have a folder for what is made, and weren't named."""
         for crate in self.crates:
             if crate not in self.done and (self.folder / "crates" / crate / "out").is_dir():
                 self.begun.setdefault(crate, time.monotonic())
@@ -114,12 +115,6 @@ class Progress:
         minutes = (time.monotonic() - self.start) / 60
         done = f"{len(self.done)} of {len(self.crates)} crates proved"
         return f"idlc: {done}, {minutes:.0f} minutes so far, about {self.estimate():.0f} left: {names}"
-
-
-def minutes_of_docs():
-    """The minutes of processor time that a crate's proof takes, by the table of docs/GATE.md."""
-    rows = re.findall(r"^\| `?(\w+)`? \| ([\d.]+)", (TOP / "docs" / "GATE.md").read_text(), re.MULTILINE)
-    return {name: float(minutes) for name, minutes in rows}
 
 
 @contextlib.contextmanager
@@ -185,7 +180,7 @@ def stop(*_signal):
 
 
 def tell_progress(log, progress, out):
-    """Tells on a terminal how far the gate is, elsewhere each crate that it proved since it was last asked."""
+    """Reports on a terminal how far the gate is, elsewhere each crate that it proved since it was last asked."""
     for line in log.read_text(errors="replace").splitlines():
         crate = progress.hear(line)
         if crate and not out.isatty():
@@ -204,7 +199,7 @@ def run_gate(folder, progress, out):
         has_ended = False
         while not has_ended:
             time.sleep(1)
-            # asked first, so that what it said last is told
+            # asked first, so that what it said last is reported
             has_ended = gate.poll() is not None
             tell_progress(log, progress, out)
     finally:

@@ -1,4 +1,4 @@
-"""The functions of a crate, as its sources tell them, which `rt fmt` has laid out."""
+"""The functions of a crate, read from its sources, which `rt fmt` has laid out."""
 import dataclasses
 import functools
 import pathlib
@@ -23,7 +23,7 @@ class Function:
 
     @property
     def error(self):
-        """The name of the type that tells why there is no value, where the answer has one."""
+        """The name of the type that says why there is no value, where the answer has one."""
         if self.answer == "fmt::Result":
             return "fmt::Error"
         parts = re.match(r"Result<.*, (\w+)(?:<.*>)?>$", self.answer)
@@ -59,7 +59,7 @@ def offered_names():
 
 
 class Reader:
-    """Goes over the lines of a file and tells its functions."""
+    """Goes over the lines of a file and finds its functions."""
 
     def __init__(self, crate, path):
         self.path = path
@@ -112,7 +112,7 @@ def functions_of(crate):
 
 @functools.cache
 def errors_of_memory():
-    """The names of the errors that can tell of want of memory: by a variant NoMemory, or as these do."""
+    """The names of the errors that can be an allocation failure: by a variant NoMemory, or as these do."""
     found = {"AllocError", "Failed", "Refused", "fmt::Error"}
     for crate in listed_crates():
         for path in source_folder(crate).rglob("*.rt"):
@@ -124,5 +124,5 @@ def errors_of_memory():
 
 
 def calls_that_take_memory(crate):
-    """The functions of a crate that others can call and that may tell of want of memory."""
+    """The functions of a crate that others can call and that may fail to allocate."""
     return [it for it in functions_of(crate) if it.is_public and it.error in errors_of_memory()]

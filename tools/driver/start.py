@@ -1,8 +1,8 @@
 """What `./idlc` does where the program isn't there or a source is newer: it sees whether a source has changed, has the
 crates proved and the program built where one has, and runs it.
 
-A line on standard error tells first how many crates are proved, and about how long that takes; then one on a terminal
-tells how far the proofs are, and is gone before the program starts, and elsewhere one tells of each crate. They can be
+A line on standard error says first how many crates are proved, and about how long that takes; then one on a terminal
+says how far the proofs are, and is gone before the program starts, and elsewhere one names each crate. They can be
 stopped, and go on where they were. Where one fails, the text stands on standard error, and the status is 70; without the
 toolchain it is 3.
 """

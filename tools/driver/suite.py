@@ -206,7 +206,7 @@ def tell_list():
 
 
 def run_one(test, work):
-    """Runs a test and tells of it, with the time by the clock and of processors. Returns its count."""
+    """Runs a test and reports it, with the time by the clock and of processors. Returns its count."""
     begun = time.monotonic()
     room = pathlib.Path(tempfile.mkdtemp(dir=work))
     try:
@@ -224,7 +224,7 @@ def run_one(test, work):
 def run_tests(tests, jobs, is_all=False):
     """Runs tests, up to so many at a time, the longest first. Returns how many cases passed and failed.
 
-    A test that wants a tool that isn't there is told and not run; with is_all it fails.
+    A test that wants a tool that isn't there is listed and not run; with is_all it fails.
     """
     lacking = [test for test in tests if test.lacking]
     ready = [test for test in tests if not test.lacking]

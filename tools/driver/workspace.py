@@ -1,4 +1,5 @@
 """Copies of crates in a folder of their own, outside the repository: the gate takes any source in that for a part."""
+import itertools
 import pathlib
 import re
 import shutil
@@ -9,11 +10,15 @@ TOP = pathlib.Path(__file__).resolve().parents[2]
 PARTS = ("src", "specs", "proofs")
 
 
-def listed_crates():
-    """The libraries that each crate of crates.txt names."""
-    lines = [line.partition("#")[0] for line in (TOP / "crates.txt").read_text().splitlines()]
+def crates_of_list(text):
+    """The libraries that each crate of a list like crates.txt names."""
+    lines = [line.partition("#")[0] for line in text.splitlines()]
     rows = [line.partition(":") for line in lines if ":" in line]
     return {name.split()[0]: below.split() for name, _, below in rows}
+
+
+def listed_crates():
+    return crates_of_list((TOP / "crates.txt").read_text())
 
 
 def crates_below(listed, names):
@@ -29,6 +34,12 @@ def crates_below(listed, names):
     for name in names:
         add(name)
     return found
+
+
+def spelled_out(path):
+    """The paths that one with `{a,b}` stands for."""
+    parts = [part.split(",") for part in re.split(r"[{}]", path)]
+    return ["".join(part) for part in itertools.product(*parts)]
 
 
 class Workspace:

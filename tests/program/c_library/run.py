@@ -107,6 +107,8 @@ def check_names(library):
     said = library.call("nm", "nm", "-D", "--defined-only", library.folder / "libidlc.so.0") or ""
     found = sorted(re.findall(r"^[0-9a-f]+ T (\w+)", said, re.MULTILINE))
     library.count.add(found == NAMES, f"names: {found}")
+    release = f'#define IDLC_RELEASE "{(TOP / "VERSION").read_text().strip()}"'
+    library.count.add(release in (library.folder / "idlc.h").read_text(), f"the header that was made lacks {release}")
     header = (TOP / "c" / "idlc.h").read_text()
     library.count.add(sorted(set(re.findall(r"^(?:uint32_t|void) (idlc_\w+)\(", header, re.MULTILINE))) == NAMES, "header")
 

@@ -12,8 +12,11 @@ from driver.suite import Count
 from driver.workspace import TOP, crates_below, listed_crates
 
 # what the commands run beside `rt`
-TOOLS = ("bash", "env", "find", "python3", "readlink")
-COMMANDS = (("idlc", "--version"), ("idlc", "check", "builtin"), ("package",), ("c/build",), ("verify",))
+TOOLS = ("bash", "env", "find", "git", "python3", "readlink")
+COMMANDS = (
+    ("idlc", "--version"), ("idlc", "check", "builtin"), ("idlc", "--unproved", "check", "builtin"),
+    ("package",), ("c/build",), ("verify",),
+)
 
 # a gate that proves every crate in no time, and makes a program
 GATE = f"""#!{sys.executable}
@@ -31,6 +34,26 @@ import sys
 print("no proof of one crate")
 sys.exit(1)
 """
+# a trial that prints what it was asked, and ends like a program that refuses
+TRIAL = f"""#!{sys.executable}
+import os, sys
+assert sys.argv[1] == "try"
+print(os.path.basename(os.getcwd()), *sys.argv[2:])
+print("checked: ended status=1\\nrun=ended status=1 runners=1 proved=no", file=sys.stderr)
+sys.exit(1)
+"""
+# a gate whose proof of a crate takes five seconds of a processor
+BUSY = """import time
+while time.process_time() < 5:
+    pass
+"""
+MEASURED = f"""#!{sys.executable}
+import pathlib, subprocess, sys
+subprocess.run([sys.executable, pathlib.Path(sys.argv[0]).with_name("rattle"), "build", "--crate-name", "type_graph", "src/lib.rt"])
+print("rt: type_graph proved")
+print("rt: type_model is kept: an earlier run proved it")
+"""
+UNPROVED = "idlc: compiling without a proof; nothing is proved of this answer, and nothing is kept\n"
 
 
 class Copy:
@@ -108,10 +131,44 @@ def failing_proofs(copy, count):
         count.add(is_right, f"{command} with a proof that fails: {done}")
 
 
+def unproved(copy, count):
+    """A trial gets the files that the words name, each by a name that it can have; what needs more is refused."""
+    copy.put_gate(TRIAL)
+    file = copy.test.room / "a.idl"
+    file.write_text("struct S {long x;};")
+    rows = [
+        (("check", "a.idl"), f"--data a.idl={file} -- check a.idl"),
+        (("show", file, "--types"), f"--data file0/a.idl={file} -- show file0/a.idl --types"),
+        (("encode", "a.idl", "S", "big", "0", "--text", "@a.idl"), f"--data a.idl={file} -- encode a.idl S big 0 --text @a.idl"),
+        (("explain", "60"), "-- explain 60"),
+    ]
+    for words, wanted in rows:
+        done = copy.run("idlc", "--unproved", *words)
+        count.add((done.status, done.out, done.err) == (1, f"idlc_main {wanted}\n", UNPROVED), f"{words} unproved: {done}")
+    for words in (("serve", "builtin"), ("call", "builtin"), ("dump", "builtin"), ("compile", "a.idl", "-o", "t"), ("upgrade", "t", "-ou")):
+        done = copy.run("idlc", "--unproved", *words)
+        is_right = (done.status, done.out, done.err.count("\n")) == (2, "", 1)
+        count.add(is_right and done.err.startswith("idlc: --unproved can't run "), f"{words} unproved: {done}")
+
+
+def measured(copy, count):
+    """The minutes of a crate that was proved are written, and no others."""
+    (copy.tools / "rattle").write_text(BUSY)
+    copy.put_gate(MEASURED)
+    before = (copy.top / "tools/minutes.txt").read_text().splitlines()
+    done = copy.run("tools/minutes", "type_graph")
+    after = (copy.top / "tools/minutes.txt").read_text().splitlines()
+    changed = [line for line in after if line not in before]
+    is_right = len(before) == len(after) and len(changed) == 1 and re.match(r"type_graph 0\.1 [\d-]{10} \w+$", changed[0])
+    count.add(done.status == 0 and is_right, f"minutes: {changed} {done}")
+
+
 def run(test):
     count = Count(0, [])
     copy = Copy(test)
     without_toolchain(copy, count)
     first_run(copy, count)
     failing_proofs(copy, count)
+    unproved(copy, count)
+    measured(copy, count)
     return count

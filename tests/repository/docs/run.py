@@ -2,8 +2,9 @@
 
 A session is a code block with lines that begin with `$ `: a command, and below it what it prints on both streams. One
 that ends in `&` runs on, prints one line, and has to end well by the end of the session.
-`examples/` and the files of `examples/idl/` are at hand where it runs. Sessions with a program that isn't `idlc` aren't
-run.
+Those of README.md begin with `./idlc` and run as they are typed at the top of a fresh copy of the repository, in which the
+proved program was put in its place; the one with `--unproved` compiles the copy. Those of docs/ begin with `idlc`, the
+program, and run where `examples/` and the files of `examples/idl/` are at hand. Others aren't run.
 """
 import contextlib
 import re
@@ -11,13 +12,14 @@ import shutil
 import socket
 import subprocess
 
+from driver.program import PROGRAM, STAMP
 from driver.suite import Count
 from driver.workspace import TOP
 
-PROGRAM = TOP / "crates" / "idlc_main" / "out" / "idlc_main"
 # a call of the operation `ping` of the object `K`
 PING = bytes.fromhex("47494f500102000000000024000000010300000000000000000000014b0000000000000570696e670000000000000000")
-DOCUMENTS = [TOP / "README.md", *sorted((TOP / "docs").glob("*.md"))]
+README = TOP / "README.md"
+DOCUMENTS = sorted((TOP / "docs").glob("*.md"))
 
 
 def blocks(text):
@@ -81,19 +83,40 @@ def run_session(test, count, document, session, folder):
         count.add(process.returncode == 0 and not out, f"{document.name}: {process.args}: {process.returncode} {out}")
 
 
+def fresh_copy(top):
+    """A copy of the repository that has nothing that was made but the proved program."""
+    shutil.copytree(TOP, top, ignore=shutil.ignore_patterns("out", "dist", ".git"))
+    for made in (PROGRAM, STAMP):
+        place = top / made.relative_to(TOP)
+        place.parent.mkdir(exist_ok=True)
+        shutil.copy(made, place)
+    return top
+
+
+def folder_with_examples(folder):
+    folder.mkdir()
+    (folder / "examples").symlink_to(TOP / "examples")
+    for file in (TOP / "examples" / "idl").glob("*.idl"):
+        shutil.copy(file, folder)
+    return folder
+
+
+def sessions(document):
+    return [session for session in map(steps, blocks(document.read_text())) if session]
+
+
 def run(test):
     built = test.call([TOP / "idlc", "check", "builtin"])
     count = Count(0, [])
     if built.status:
         return Count(0, [built.out + built.err])
+    top = fresh_copy(test.room / "top")
+    for session in sessions(README):
+        count.add(all(command.startswith("./idlc ") for command, _ in session), f"README.md: not typed at the top: {session}")
+        run_session(test, count, README, session, top)
     for document in DOCUMENTS:
-        folder = test.room / document.stem
-        folder.mkdir()
-        (folder / "examples").symlink_to(TOP / "examples")
-        for file in (TOP / "examples" / "idl").glob("*.idl"):
-            shutil.copy(file, folder)
-        for block in blocks(document.read_text()):
-            session = steps(block)
+        folder = folder_with_examples(test.room / document.stem)
+        for session in sessions(document):
             if all(command.startswith("idlc ") for command, _ in session):
                 run_session(test, count, document, session, folder)
     return count

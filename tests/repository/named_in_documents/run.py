@@ -5,13 +5,12 @@ A file with a folder stands in the crate that was named before it on its line, i
 one without may be anywhere. The walks of docs/ARCHITECTURE.md are lines `CRATE::MODULE::FUNCTION, ..  what it does`.
 """
 import collections
-import itertools
 import os
 import re
 
 from driver.calls import functions_at, places_of
 from driver.suite import TESTS, Count, all_tests
-from driver.workspace import TOP, listed_crates
+from driver.workspace import TOP, listed_crates, spelled_out
 
 CRATES = TOP / "crates"
 # a file between backticks, or a crate's name
@@ -29,12 +28,6 @@ def names_of_files():
         folders[:] = [name for name in folders if name not in (".git", "out")]
         found.update(folders, files)
     return found
-
-
-def spelled_out(path):
-    """The paths that one with `{a,b}` stands for."""
-    parts = [part.split(",") for part in re.split(r"[{}]", path)]
-    return ["".join(part) for part in itertools.product(*parts)]
 
 
 def files_named(document, crates):
@@ -146,17 +139,6 @@ def add_groups(count):
     count.add([row[0] for row in rows if row[0] in names] == names, "docs/ARCHITECTURE.md: the crates aren't in the order of crates.txt")
 
 
-def add_edits(count):
-    """docs/GATE.md has a row for each crate, which ends in how many edits stand in the gate and how many beside it."""
-    crates = sorted(listed_crates())
-    rows = [row for row in rows_of(TOP / "docs" / "GATE.md") if row[0] in crates]
-    count.add([row[0] for row in rows] == crates, "docs/GATE.md: the rows aren't the crates of crates.txt from a to z")
-    for crate, *_, in_gate, beside in rows:
-        folders = (CRATES / crate / "must-fail", TESTS / "wrong_bodies" / crate)
-        found = [str(len([*folder.glob("*.edit")])) for folder in folders]
-        count.add([in_gate, beside] == found, f"docs/GATE.md: {crate} has {' and '.join(found)} edits, not {in_gate} and {beside}")
-
-
 def add_first_words(count):
     """docs/GLOSSARY.md has a row for each word that the names of several crates begin with, and for no word that is none."""
     text = (TOP / "docs" / "GLOSSARY.md").read_text().partition("Words that names of crates begin with:")[2]
@@ -169,7 +151,6 @@ def add_first_words(count):
 def run(test):
     count = Count(0, [])
     add_groups(count)
-    add_edits(count)
     add_first_words(count)
     add_files(count)
     add_tests(count)
