@@ -5,7 +5,7 @@ ghost use Rattle.diagnostic_texts.specs.Headings.{capture_heading, first_line, i
 
 const BAD_CAPTURE: &str = "142 BadCapture
 A file is no capture: it begins neither with a message of GIOP nor as what tshark prints of a
-connection; or a line of that text isn't of its form. The line is told.
+connection; or a line of that text isn't of its form. The line is printed.
 Input, a file:
     hello
 To mend it: capture the octets of one direction, or print both by tshark -q -z follow,tcp,raw,N.
@@ -15,7 +15,7 @@ Mended, a file that begins so:
 
 const UNKNOWN_OPERATION: &str = "143 UnknownOperation
 The table has no operation of the name that a request has. Its body, and that of its reply, are
-told as octets.
+printed as octets.
 Input: a request of the operation ping, and a table without one.
 To mend it: name the table of the interface that the server was built from.
 Mended: the same request, and the table of interface Hello {void ping();};
@@ -23,7 +23,7 @@ Mended: the same request, and the table of interface Hello {void ping();};
 
 const NO_REQUEST: &str = "144 NoRequest
 The request of a reply isn't in the capture before it, or too many were open since. The body of
-the reply is told as octets.
+the reply is printed as octets.
 Input: a capture of what a server sent alone.
 To mend it: capture both directions.
 Mended: a capture of both directions, in two files or as tshark prints it.

@@ -5,7 +5,7 @@ ghost use Rattle.diagnostic_texts.specs.Headings.{first_line, is_within, text_he
 
 const NOT_JSON: &str = "110 NotJson
 The text isn't JSON (RFC 8259): a token, a comma, a colon or a bracket is wrong or missing, or the
-file isn't UTF-8, which is told as line 0.
+file isn't UTF-8, which has line 0.
 Input, a text for P of the IDL struct P {long x;};
     {\"x\":3
 To mend it: close what is open; a number has no leading zero, a text stands in quotes.

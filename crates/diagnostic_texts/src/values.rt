@@ -4,10 +4,10 @@ ghost use Rattle.std.specs.Prelude.{◌≡◌, is_some, option_map};
 ghost use Rattle.diagnostic_texts.specs.Headings.{first_line, is_within, value_heading};
 
 const NOT_OF_TYPE: &str = "40 NotOfType
-A value that is to become a tape isn't one of the type: a number out of range, a text over its
+A value that is to become a tape isn't one of the type: a number out of range, a string over its
 bound or with a zero in it, too many or too few members, another kind of value.
 Input: the value 2 of a boolean.
-To mend it: give a value of the type; idlc show T --types tells what each type has.
+To mend it: give a value of the type; idlc show T --types lists what each type has.
 Mended: the value TRUE of a boolean.
 ";
 
@@ -15,36 +15,36 @@ const NOT_A_TAPE: &str = "41 NotATape
 Octets that are to become a value aren't the whole tape of one of the type.
 Input: the octets 02 for a boolean, or 0101.
 To mend it: give the tape of one value and no more: numbers in big order without gaps, counts
-and lengths in 4 octets, a text without its terminating zero.
+and lengths in 4 octets, a string without its terminating zero.
 Mended: the octet 01 for a boolean.
 ";
 
 const NO_MEMORY: &str = "42 NoMemory
-A call of the library for C wanted memory, and malloc or realloc gave none.
+An allocation of the library for C failed: malloc or realloc gave no memory.
 Input: idlc_decode of 16,777,216 octets, where the program may have 8 MiB.
-To mend it: let go of memory, or allow the program more, and call again: nothing has changed.
+To mend it: free memory, or allow the program more, and call again: nothing has changed.
 Mended: the same call, where the program may have 64 MiB.
 ";
 
 const NO_TABLE: &str = "43 NoTable
-A call of the library for C was given a table that is none: nothing was loaded, or it was let go of.
+A call of the library for C was given a table that is none: nothing was loaded, or it was freed.
 Input: idlc_find with struct idlc_table table = {0};
-To mend it: load a table with idlc_load or idlc_compile first, and see that it answers 0.
-Mended: the same call behind idlc_compile, which answered 0.
+To mend it: load a table with idlc_load or idlc_compile first, and see that it returns 0.
+Mended: the same call behind idlc_compile, which returned 0.
 ";
 
 const NO_NAME: &str = "44 NoName
 No type of a table that the library for C has loaded has this name or this node, or no name stands
 at this place.
 Input: idlc_find with \"Point\", where the IDL has module M { struct Point {long x;}; };
-To mend it: write a name with its modules; idlc_name tells all names.
+To mend it: write a name with its modules; idlc_name returns all names.
 Mended: idlc_find with \"M::Point\".
 ";
 
 const NO_ROOM: &str = "45 NoRoom
-The buffer that the library for C is to fill has less room than is needed, which is told.
+The buffer that the library for C is to fill is shorter than the length that is returned.
 Input: idlc_encode of a structure of 8 octets into a buffer of 4.
-To mend it: ask with a buffer of length 0, which tells the length; then give one so long.
+To mend it: ask with a buffer of length 0, which returns the length; then give one so long.
 Mended: idlc_encode of a structure of 8 octets into a buffer of 8.
 ";
 
@@ -56,7 +56,7 @@ Mended: idlc_load with the octets of that file.
 ";
 
 const FAULTY_IDL: &str = "47 FaultyIdl
-The IDL that the library for C was given has a fault, whose number, 1 to 36, and line are told.
+The IDL that the library for C was given has a fault; its number, 1 to 36, and line are returned.
 Input: idlc_compile with struct Point { long x };
 To mend it: look the number up with idlc explain, and mend the line.
 Mended: idlc_compile with struct Point { long x; };
