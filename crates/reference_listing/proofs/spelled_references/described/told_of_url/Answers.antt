@@ -7,8 +7,8 @@ use Rattle.reference_texts.proofs.TextLaws.{text_read}
 use Rattle.reference_listing.specs.Described.{IsToldOf}
 use Rattle.reference_listing.proofs.spelled_references.described.told_of_url.Goals as goal
 
-pub told-requires : goal.told-requires
-told-requires c =
+pub described-requires : goal.described-requires
+described-requires c =
     let reference = reference_of c.args.ior.now in
     subst (λ (t : List ℕ). Spells t reference) (sym c.as_str.ensures.value)
     (text_read reference (string_bytes c.in-Ok.text) c.in-Ok.ensures.text)
