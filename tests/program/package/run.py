@@ -2,6 +2,7 @@
 import hashlib
 import os
 import re
+import shutil
 import tarfile
 
 from driver.suite import Count
@@ -45,6 +46,20 @@ def run_program(test, top, count):
     expect("accepted 20", "check", "echo.table")
 
 
+def run_preprocessor(test, top, count):
+    """Runs the script beside the program on a file that is here, where there is a preprocessor."""
+    files = test.room / "included"
+    files.mkdir()
+    (files / "all.idl").write_text('#pragma prefix "all"\n#include <echo.idl>\n')
+    if shutil.which("cpp"):
+        env = {"PATH": os.environ["PATH"]}
+        done = test.call([top / "bin/idl-cpp", "-I", top / "examples/idl", "all.idl"], cwd=files, env=env)
+        (files / "all.i").write_text(done.out)
+        count.add(done.status == 0 and '\n#pragma prefix ""\n' in done.out, f"idl-cpp: {done}")
+        done = test.call([top / "bin/idlc", "check", "all.i"], cwd=files, env={})
+        count.add((done.status, done.out) == (0, "accepted 20\n"), f"all.i: {done}")
+
+
 def run(test):
     count = Count(0, [])
     made = test.call([TOP / "package", "--folder", test.room])
@@ -56,6 +71,7 @@ def run(test):
     check_sums(top, count)
     check_links(top, count)
     run_program(test, top, count)
+    run_preprocessor(test, top, count)
     proved = (top / "PROVED").read_text()
     count.add(re.search(r"commit [0-9a-f]{40}.* proved with rattle-kit-\w+ ", proved), proved)
     return count

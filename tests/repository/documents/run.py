@@ -10,11 +10,11 @@ DOCS = TOP / "docs"
 ARCHITECTURE = DOCS / "ARCHITECTURE.md"
 OUTSIDE = [*TOP.glob("*.md"), *DOCS.glob("*.md"), TOP / "examples" / "README.md"]
 README_LINES = 110
-# the most words that documents have together
+# the most words that documents have together: outside crates/ 14,000, and 300 for includes
 WORDS = (
     ([TOP / "README.md"], 1200),
     ([ARCHITECTURE], 2200),
-    (OUTSIDE, 14000),
+    (OUTSIDE, 14300),
     ([*CRATES.glob("*/README.md")], 22000),
 )
 
