@@ -45,10 +45,10 @@ fn of_table<'a>(alloc: Global, octets: &[u8]) -> Result<Loaded, NamedFault<'a>>
 }
 
 fn of_source<'a>(alloc: Global, octets: Vec<u8>) -> Result<Loaded, NamedFault<'a>>
-    requires { ¬ IsTableFile octets.entry.items }
-    ensures held { IfOk result (λ loaded. IsHeldBy octets.entry.items loaded.table loaded.names) }
+    requires { ¬ IsTableFile octets.items }
+    ensures held { IfOk result (λ loaded. IsHeldBy octets.items loaded.table loaded.names) }
     ensures right { IfOk result (λ loaded. IsRight loaded.table) }
-    ensures refused { IfErr result (IsNotHeld octets.entry.items) }
+    ensures refused { IfErr result (IsNotHeld octets.items) }
 {
     match compile_source(alloc, octets.as_slice()) {
         Ok(whole) => Ok(Loaded {
@@ -64,9 +64,9 @@ fn of_source<'a>(alloc: Global, octets: Vec<u8>) -> Result<Loaded, NamedFault<'a
 
 /// The table that octets are, or that of the IDL that they are.
 fn held<'a>(alloc: Global, octets: Vec<u8>) -> Result<Loaded, NamedFault<'a>>
-    ensures held { IfOk result (λ loaded. IsHeldBy octets.entry.items loaded.table loaded.names) }
+    ensures held { IfOk result (λ loaded. IsHeldBy octets.items loaded.table loaded.names) }
     ensures right { IfOk result (λ loaded. IsRight loaded.table) }
-    ensures refused { IfErr result (IsNotHeld octets.entry.items) }
+    ensures refused { IfErr result (IsNotHeld octets.items) }
 {
     if is_table(octets.as_slice()) {
         of_table(alloc, octets.as_slice())

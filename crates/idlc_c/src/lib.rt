@@ -30,7 +30,7 @@ mod text;
 use crate::column::column_of;
 use crate::marshal::order;
 use crate::messages::{buffer_number, message_told};
-use crate::refusal::{Refusal, done, told, told_at};
+use crate::refusal::{Refusal, done, status_of, told_at};
 use giop::giop_buffers;
 pub use giop::giop_buffers::MessageFront;
 use giop::giop_buffers::RequestHead;
