@@ -2,9 +2,9 @@
 import dataclasses
 import re
 
-# a value of each name; no such file is there
+# a value of each name; no such file is there, and of what is offered only `upgrade builtin` writes one
 VALUES = {
-    **{name: "none.table" for name in ("T", "U")},
+    **{"T": "none.table", "U": "made.table"},
     **{name: "none.file" for name in ("F", "FILE", "BACK")},
     **{name: "1" for name in ("POS", "N", "M", "S")},
     **{"NAME": "S", "ORDER": "big", "HEX": "00", "TEXT": "{}", "VALUE": "[]", "IOR": "corbaloc::h:1/K", "OP": "ping"},

@@ -79,7 +79,8 @@ class Runs:
     def expect_taken(self, is_taken, words):
         """The program takes these words, or refuses them as wrong usage."""
         done = self.program(*words)
-        self.count.add((done.status != 2) == is_taken, f"{' '.join(words)}: {done}")
+        is_right = (done.status != 2) == is_taken and "cannot read builtin" not in done.err
+        self.count.add(is_right, f"{' '.join(words)}: {done}")
 
 
 def add_options(runs, command):
@@ -186,8 +187,12 @@ def add_typed(runs, words, begin, others):
         terminal.end()
 
 
-def add_zsh(runs):
-    """zsh reads its file and completes by it, where it is there."""
+def add_zsh(runs, commands):
+    """zsh's file has the options of each command, and no more. Where zsh is there, it reads the file and completes by it."""
+    found = parts_of(runs.zsh.read_text(), r"^ {12}(\w+)\)$")
+    for command in commands:
+        options = re.findall(r"(?<=[){,'])--?\w[\w-]*(?=[=+]?[\[,}])", found.get(command.name, ""))
+        runs.count.add(sorted(options) == sorted(command.options), f"zsh: {command.name}: {options}")
     if shutil.which("zsh"):
         done = runs.test.call(["zsh", "-n", runs.zsh])
         runs.count.add((done.status, done.err) == (0, ""), f"zsh -n: {done}")
@@ -223,6 +228,6 @@ def run(test):
     for name, page in pages(runs).items():
         add_page(runs, name, page, commands)
     add_typed(runs, ["bash", "--norc", "--noprofile", "-i"], f"source {runs.bash}", {})
-    add_zsh(runs)
+    add_zsh(runs, commands)
     add_forms(runs.count)
     return runs.count
