@@ -46,6 +46,18 @@ def run_program(test, top, count):
     expect("accepted 20", "check", "echo.table")
 
 
+def check_manual(test, top, count):
+    """The completions and the man page lie beside bin/, where systems look for them."""
+    completion = top / "share/bash-completion/completions/idlc"
+    done = test.call(["bash", "--norc", "-c", 'source "$1" && complete -p idlc', "bash", completion], env={})
+    count.add((done.status, done.out, done.err) == (0, "complete -F _idlc idlc\n", ""), f"bash: {done}")
+    text = (top / "share/zsh/site-functions/_idlc").read_text()
+    count.add(text.startswith("#compdef idlc\n"), f"zsh: {text[:80]}")
+    text = (top / "share/man/man1/idlc.1").read_text()
+    version = (top / "VERSION").read_text().strip()
+    count.add(re.search(rf'^\.TH IDLC 1 "[\d-]+" "idlc {version}"', text, re.MULTILINE), f"man page: {text[:200]}")
+
+
 def run_preprocessor(test, top, count):
     """Runs the script beside the program on a file that is here, where there is a preprocessor."""
     files = test.room / "included"
@@ -71,6 +83,7 @@ def run(test):
     check_sums(top, count)
     check_links(top, count)
     run_program(test, top, count)
+    check_manual(test, top, count)
     run_preprocessor(test, top, count)
     proved = (top / "PROVED").read_text()
     count.add(re.search(r"commit [0-9a-f]{40}.* proved with rattle-kit-\w+ ", proved), proved)
