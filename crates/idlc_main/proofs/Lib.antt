@@ -1,4 +1,5 @@
 pub mod Answers
+pub mod Asked
 pub mod Ends
 pub mod Unspelled
 pub mod DumpEnds

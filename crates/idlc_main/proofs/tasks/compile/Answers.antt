@@ -23,14 +23,14 @@ returns-in-Ok-put_compiled-clause-answers g c = record {
     file = c.in-Ok-compile_file.file;
     is = subst (λ octets. IsCompiledFile octets c.in-Ok-compile_file.file) c.as_slice.ensures.value
         c.in-Ok-compile_file.ensures.compiled;
-    taken = c.put_compiled.ensures.taken;
+    taken = c.in-Ok-put_compiled.ensures.taken;
     line_is = refl;
   };
   fault = tt;
 }
 
-pub returns-in-Err-put_compiled-clause-answers : goal.returns-in-Err-put_compiled-clause-answers
-returns-in-Err-put_compiled-clause-answers g c = record {
+pub returns-clause-answers : goal.returns-clause-answers
+returns-clause-answers g c = record {
   line = tt;
   fault = inr (record {
     octets = c.in-Ok.octets.items;
