@@ -79,7 +79,7 @@ SET_TWICE = Case(
 NESTED = Case(
     "nested",
     {
-        "in.idl": "interface In {};\n",
+        "in.idl": "interface Inner {};\n",
         "mid.idl": '#include "in.idl"\n#pragma prefix "mid"\ninterface Mid1 {};\n#include "end.idl"\ninterface Mid2 {};\n',
         "end.idl": '#pragma prefix "end"\ninterface End {};\n',
         "a.idl": '#pragma prefix "a"\n#include "mid.idl"\n#include "last.idl"\ninterface A {};\n',
@@ -88,7 +88,7 @@ NESTED = Case(
     """
     #pragma prefix "a"
     #pragma prefix ""
-    in.idl:1 interface In {};
+    in.idl:1 interface Inner {};
     #pragma prefix "mid"
     mid.idl:3 interface Mid1 {};
     #pragma prefix ""
@@ -103,7 +103,7 @@ NESTED = Case(
     a.idl:4 interface A {};
     """,
     {
-        "In": "IDL:In:1.0",
+        "Inner": "IDL:Inner:1.0",
         "Mid1": "IDL:mid/Mid1:1.0",
         "End": "IDL:end/End:1.0",
         "Mid2": "IDL:mid/Mid2:1.0",
